@@ -1,0 +1,108 @@
+-- Floor and ceiling of a quotient, once for any positive divisor d: what characterises them, that they grow with z, that they are unique.
+use mathlib.Core.Path.{_≡_, refl, sym, ap, _∙_}
+use mathlib.Core.Logic.{_↔_, ⊎-elim}
+use Prim.Native.Nat.{ℕ, zero, suc, _*_, _/_, _%_, _<_}
+use native.Mathlib.Omega.{arith}
+use native.Mathlib.Nat.{div-add-mod, mod-lt}
+use lib.Dec.{ltb→lt}
+use lib.IntN.{ℤ, pos, negsuc, negℤ, _+ℤ_, _-ℤ_, _*ℤ_, negℤ-negℤ}
+use lib.Signed.{_≤ℤ_, _<ℤ_, shrZ, clashℤ}
+use Rattle.integer.specs.Rounding.{floorDiv, ceilDiv}
+use Rattle.integer.proofs.Difference.{differences}
+use Rattle.integer.proofs.Linear.{linear, over}
+use Rattle.integer.proofs.Order.{trans, le-lt-trans, antisym, lt-le, lt-or-ge, next, mono}
+
+by-natural : (z : ℤ) (s : ℕ) → 0 < s → ((shrZ z s *ℤ pos s) ≤ℤ z) × (z <ℤ (shrZ z s *ℤ pos s +ℤ pos s))
+by-natural (pos a) s h = simp differences (omega (arith, div-add-mod a s, mod-lt a h))
+by-natural (negsuc a) s h = simp differences (omega (arith, div-add-mod a s, mod-lt a h))
+
+floor-both : (z d : ℤ) → pos 0 <ℤ d → ((floorDiv z d *ℤ d) ≤ℤ z) × (z <ℤ (floorDiv z d *ℤ d +ℤ d))
+unfolding floorDiv
+floor-both z (pos s) h = by-natural z s (ltb→lt 0 s (h .lt))
+floor-both z (negsuc s) h = absurd (h .lt)
+
+module _ (z d : ℤ) (h : pos 0 <ℤ d) where
+  pub floor-low : (floorDiv z d *ℤ d) ≤ℤ z
+  floor-low = floor-both z d h .0
+
+  pub floor-high : z <ℤ (floorDiv z d *ℤ d +ℤ d)
+  floor-high = floor-both z d h .1
+
+-- k·d below (f + 1)·d only where k ≤ f
+below : (k f d : ℤ) → pos 0 <ℤ d → (k *ℤ d) <ℤ (f *ℤ d +ℤ d) → k ≤ℤ f
+below k f d h l = ⊎-elim (λ (g : f <ℤ k). clashℤ l (above f k d (mono (f +ℤ pos 1) k d (lt-le h) (next g)))) (λ g. g) (lt-or-ge f k)
+  where
+    above : (f k d : ℤ) → ((f +ℤ pos 1) *ℤ d) ≤ℤ (k *ℤ d) → (f *ℤ d +ℤ d) ≤ℤ (k *ℤ d)
+    above = over 3 _ (λ ρ. simp (linear, ρ) (omega arith))
+
+-- the floor is the greatest k with k·d ≤ z
+pub floor-iff : (z d k : ℤ) → pos 0 <ℤ d → (k ≤ℤ floorDiv z d) ↔ ((k *ℤ d) ≤ℤ z)
+floor-iff z d k h = (
+  (λ l. trans (mono k (floorDiv z d) d (lt-le h) l) (floor-low z d h)),
+  (λ l. below k (floorDiv z d) d h (le-lt-trans l (floor-high z d h))),
+)
+
+-- and the only number with these bounds
+pub floor-unique : (z d k : ℤ) → pos 0 <ℤ d → (k *ℤ d) ≤ℤ z → z <ℤ (k *ℤ d +ℤ d) → k ≡ floorDiv z d
+floor-unique z d k h l u =
+    antisym k (floorDiv z d) (floor-iff z d k h .1 l) (below (floorDiv z d) k d h (le-lt-trans (floor-low z d h) u))
+
+pub floor-mono : (y z d : ℤ) → pos 0 <ℤ d → y ≤ℤ z → floorDiv y d ≤ℤ floorDiv z d
+floor-mono y z d h l = floor-iff z d (floorDiv y d) h .1 (trans (floor-low y d h) l)
+
+-- a divisor below 0: both signs are turned
+pub floor-turn : (z d : ℤ) → pos 0 <ℤ d → floorDiv z (negℤ d) ≡ floorDiv (negℤ z) d
+unfolding floorDiv
+floor-turn z (pos zero) h = absurd (h .lt)
+floor-turn z (pos (suc s)) h = refl
+floor-turn z (negsuc s) h = absurd (h .lt)
+
+pub ceil-turn : (z d : ℤ) → pos 0 <ℤ d → ceilDiv z (negℤ d) ≡ ceilDiv (negℤ z) d
+unfolding ceilDiv
+ceil-turn z d h = ap negℤ (floor-turn (negℤ z) d h)
+
+module _ (z d : ℤ) (h : pos 0 <ℤ d) where
+  pub ceil-high : z ≤ℤ (ceilDiv z d *ℤ d)
+  unfolding ceilDiv
+  ceil-high = turn (floorDiv (negℤ z) d) z d (floor-low (negℤ z) d h)
+    where
+      turn : (f z d : ℤ) → (f *ℤ d) ≤ℤ negℤ z → z ≤ℤ (negℤ f *ℤ d)
+      turn = over 3 _ (λ ρ. simp linear (omega arith))
+
+  pub ceil-low : (ceilDiv z d *ℤ d -ℤ d) <ℤ z
+  unfolding ceilDiv
+  ceil-low = turn (floorDiv (negℤ z) d) z d (floor-high (negℤ z) d h)
+    where
+      turn : (f z d : ℤ) → negℤ z <ℤ (f *ℤ d +ℤ d) → (negℤ f *ℤ d -ℤ d) <ℤ z
+      turn = over 3 _ (λ ρ. simp linear (omega arith))
+
+-- the ceiling is the least k with z ≤ k·d
+pub ceil-iff : (z d k : ℤ) → pos 0 <ℤ d → (ceilDiv z d ≤ℤ k) ↔ (z ≤ℤ (k *ℤ d))
+unfolding ceilDiv
+ceil-iff z d k h = (
+  (λ l. out k d z (floor-iff (negℤ z) d (negℤ k) h .0 (flip (floorDiv (negℤ z) d) k l))),
+  (λ l. back (floorDiv (negℤ z) d) k (floor-iff (negℤ z) d (negℤ k) h .1 (into k d z l))),
+)
+  where
+    flip : (f k : ℤ) → negℤ f ≤ℤ k → negℤ k ≤ℤ f
+    flip = over 2 _ (λ ρ. simp linear (omega arith))
+
+    back : (f k : ℤ) → negℤ k ≤ℤ f → negℤ f ≤ℤ k
+    back = over 2 _ (λ ρ. simp linear (omega arith))
+
+    out : (k d z : ℤ) → (negℤ k *ℤ d) ≤ℤ negℤ z → z ≤ℤ (k *ℤ d)
+    out = over 3 _ (λ ρ. simp linear (omega arith))
+
+    into : (k d z : ℤ) → z ≤ℤ (k *ℤ d) → (negℤ k *ℤ d) ≤ℤ negℤ z
+    into = over 3 _ (λ ρ. simp linear (omega arith))
+
+pub ceil-unique : (z d k : ℤ) → pos 0 <ℤ d → z ≤ℤ (k *ℤ d) → (k *ℤ d -ℤ d) <ℤ z → k ≡ ceilDiv z d
+unfolding ceilDiv
+ceil-unique z d k h l u =
+    sym (negℤ-negℤ k) ∙ ap negℤ (floor-unique (negℤ z) d (negℤ k) h (turn k d z l u .0) (turn k d z l u .1))
+  where
+    turn : (k d z : ℤ) → z ≤ℤ (k *ℤ d) → (k *ℤ d -ℤ d) <ℤ z → ((negℤ k *ℤ d) ≤ℤ negℤ z) × (negℤ z <ℤ (negℤ k *ℤ d +ℤ d))
+    turn = over 3 _ (λ ρ. simp linear (omega arith))
+
+pub ceil-mono : (y z d : ℤ) → pos 0 <ℤ d → y ≤ℤ z → ceilDiv y d ≤ℤ ceilDiv z d
+ceil-mono y z d h l = ceil-iff y d (ceilDiv z d) h .1 (trans l (ceil-high z d h))

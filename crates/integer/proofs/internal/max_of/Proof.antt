@@ -1,0 +1,14 @@
+use mir.Syntax.{w64}
+use mir.ValLaws.{toZ-ofZ}
+use Rattle.integer.proofs.Extremes.{max-left, max-right}
+use Rattle.integer.proofs.internal.max_of.Statement.{statement}
+use Rattle.integer.proofs.internal.max_of.Tie as tie
+
+returns : tie.Need-returns
+returns c = let s = c .before in simp (toZ-ofZ w64, s .fits .b) (max-right _ _ (simp (toZ-ofZ w64, s .fits .a, s .fits .b) at (c .if1 .taken)))
+
+returns-2 : tie.Need-returns-2
+returns-2 c = let s = c .before in simp (toZ-ofZ w64, s .fits .a) (max-left _ _ (simp (toZ-ofZ w64, s .fits .a, s .fits .b) at (c .if1 .left)))
+
+pub max-of-spec : {M : Type 1} → statement M
+max-of-spec = tie.close (tie.spec returns returns-2)

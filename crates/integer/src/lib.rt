@@ -1,0 +1,2 @@
+// Integers: floor and ceiling division, minimum and maximum. The laws of ℤ that every crate above cites are in proofs/.
+pub mod internal;
