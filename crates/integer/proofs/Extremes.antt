@@ -5,7 +5,7 @@ use mathlib.Core.Logic.{⊎-elim}
 use lib.IntN.{ℤ}
 use lib.Signed.{_≤ℤ_, _<ℤ_, ltZ, ≤ℤ-refl}
 use Rattle.integer.specs.Extremes.{minimum, maximum}
-use Rattle.integer.proofs.Order.{lt-or-ge, lt-le, yes-lt, no-lt}
+use Rattle.integer.proofs.Order.{antisym, lt-or-ge, lt-le, yes-lt, no-lt}
 
 module _ (a b : ℤ) where
   pub min-right : ltZ b a ≡ true → b ≡ minimum a b
@@ -44,3 +44,28 @@ module _ (a b : ℤ) where
 
   pub le-max-right : b ≤ℤ maximum a b
   le-max-right = max-ind (λ m. b ≤ℤ m) (λ e. ≤ℤ-refl b) (λ e. e)
+
+  pub le-min : (c : ℤ) → c ≤ℤ a → c ≤ℤ b → c ≤ℤ minimum a b
+  le-min c h k = min-ind (λ m. c ≤ℤ m) (λ e. k) (λ e. h)
+
+  pub max-le : (c : ℤ) → a ≤ℤ c → b ≤ℤ c → maximum a b ≤ℤ c
+  max-le c h k = max-ind (λ m. m ≤ℤ c) (λ e. k) (λ e. h)
+
+module _ {a b : ℤ} where
+  pub min-is-left : a ≤ℤ b → minimum a b ≡ a
+  min-is-left h = antisym _ _ (min-le-left a b) (le-min a b a (≤ℤ-refl a) h)
+
+  pub min-is-right : b ≤ℤ a → minimum a b ≡ b
+  min-is-right h = antisym _ _ (min-le-right a b) (le-min a b b h (≤ℤ-refl b))
+
+  pub max-is-left : b ≤ℤ a → maximum a b ≡ a
+  max-is-left h = antisym _ _ (max-le a b a (≤ℤ-refl a) h) (le-max-left a b)
+
+  pub max-is-right : a ≤ℤ b → maximum a b ≡ b
+  max-is-right h = antisym _ _ (max-le a b b h (≤ℤ-refl b)) (le-max-right a b)
+
+pub min-comm : (a b : ℤ) → minimum a b ≡ minimum b a
+min-comm a b = antisym _ _ (le-min b a _ (min-le-right a b) (min-le-left a b)) (le-min a b _ (min-le-right b a) (min-le-left b a))
+
+pub max-comm : (a b : ℤ) → maximum a b ≡ maximum b a
+max-comm a b = antisym _ _ (max-le a b _ (le-max-right b a) (le-max-left b a)) (max-le b a _ (le-max-right a b) (le-max-left a b))

@@ -32,6 +32,14 @@ fits64 z = ((λ h. into64 z (h .sfits)), (λ h. record { sfits = outof64 z h }))
 pub plain : (z : ℤ) → mag z < 2 ^ 63 → toZ w64 (ofZ w64 z) ≡ z
 plain z h = toZ-ofZ w64 z (record { sfits = h })
 
+-- an operation on two values that are read back from their bits
+module _ (f : ℤ → ℤ → ℤ) (a b : ℤ) (fa : SFits w64 a) (fb : SFits w64 b) (ok : SFits w64 (f a b)) where
+  pub op-safe : SFits w64 (f (toZ w64 (ofZ w64 a)) (toZ w64 (ofZ w64 b)))
+  op-safe = rw (toZ-ofZ w64 a fa, toZ-ofZ w64 b fb) ok
+
+  pub op-read : toZ w64 (ofZ w64 (f (toZ w64 (ofZ w64 a)) (toZ w64 (ofZ w64 b)))) ≡ f a b
+  op-read = rw (toZ-ofZ w64 a fa, toZ-ofZ w64 b fb) (toZ-ofZ w64 (f a b) ok)
+
 -- ---- the machine's quotient and remainder by a positive divisor
 pub pos-bits : (d : ℤ) → pos 0 <ℤ d → 0 < ofZ w64 d
 pos-bits (pos n) h = ltb→lt 0 n (h .lt)
@@ -112,13 +120,13 @@ module _ (z d : ℤ) (h : pos 0 <ℤ d) where
       high : (q z d r : ℤ) → SFits w64 z → pos 0 ≤ℤ q → (pos 0 +ℤ pos 1) ≤ℤ d → pos 0 <ℤ r → q *ℤ d +ℤ r ≡ z → SFits w64 (q +ℤ pos 1)
       high = over 4 _ (λ ρ f l h r e. also (prod l h) (also f (also l (also r (also e (simp (fits64, linear, ρ) (omega arith)))))))
 
--- ---- as a proof of code meets them: both numbers read back from their bits
+-- ---- as a proof of code meets them
 module _ (a d : ℤ) (fa : SFits w64 a) (fd : SFits w64 d) (h : pos 0 <ℤ d) where
   pub quot-safe : (0 < ofZ w64 d) × SFits w64 (quotZ (toZ w64 (ofZ w64 a)) (toZ w64 (ofZ w64 d)))
-  quot-safe = (pos-bits d h, simp (toZ-ofZ w64, fa, fd) (quot-fits a d fa h))
+  quot-safe = (pos-bits d h, op-safe quotZ a d fa fd (quot-fits a d fa h))
 
   pub quot-read : toZ w64 (ofZ w64 (quotZ (toZ w64 (ofZ w64 a)) (toZ w64 (ofZ w64 d)))) ≡ quotZ a d
-  quot-read = let f = quot-fits a d fa h in simp (toZ-ofZ w64, fa, fd, f)
+  quot-read = op-read quotZ a d fa fd (quot-fits a d fa h)
 
   pub rem-read : toZ w64 (ofZ w64 (remZ (toZ w64 (ofZ w64 a)) (toZ w64 (ofZ w64 d)))) ≡ remZ a d
-  rem-read = let f = rem-fits a d fa in simp (toZ-ofZ w64, fa, fd, f)
+  rem-read = op-read remZ a d fa fd (rem-fits a d fa)

@@ -41,6 +41,15 @@ no-lt a b h = go (ltZ a b) refl
     go true e = clashℤ (taken a b e) h
     go false e = e
 
+pub le-taken : (a b : ℤ) → leZ a b ≡ true → a ≤ℤ b
+le-taken a b e = leZ-yes (subst T (sym e) tt)
+
+pub le-left : (a b : ℤ) → leZ a b ≡ false → b <ℤ a
+le-left a b e = ⊎-elim (λ h. h) (λ (h : a ≤ℤ b). absurd (subst T e (h .le))) (lt-or-ge b a)
+
+pub yes-le : (a b : ℤ) → a ≤ℤ b → leZ a b ≡ true
+yes-le a b h = T-true (leZ a b) (h .le)
+
 -- ---- the linear laws that every proof uses
 pub trans : {a b c : ℤ} → a ≤ℤ b → b ≤ℤ c → a ≤ℤ c
 trans {a} {b} {c} = go a b c
@@ -68,6 +77,12 @@ next {a} {b} = go a b
   where
     go : (a b : ℤ) → a <ℤ b → (a +ℤ pos 1) ≤ℤ b
     go = over 2 _ (λ ρ. simp (linear, ρ) (omega arith))
+
+pub turn-le : {a b : ℤ} → a ≤ℤ b → negℤ b ≤ℤ negℤ a
+turn-le {a} {b} = go a b
+  where
+    go : (a b : ℤ) → a ≤ℤ b → negℤ b ≤ℤ negℤ a
+    go = over 2 _ (λ ρ. simp linear (omega arith))
 
 pub neg-pos : {a : ℤ} → a <ℤ pos 0 → pos 0 <ℤ negℤ a
 neg-pos {a} = go a

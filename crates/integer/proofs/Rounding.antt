@@ -1,16 +1,16 @@
 -- Floor and ceiling of a quotient, once for any positive divisor d: what characterises them, that they grow with z, that they are unique.
 use mathlib.Core.Path.{_≡_, refl, sym, ap, _∙_}
-use mathlib.Core.Logic.{_↔_, ⊎-elim}
+use mathlib.Core.Logic.{_↔_, _⊎_, ⊎-elim}
 use Prim.Native.Nat.{ℕ, zero, suc, _*_, _/_, _%_, _<_}
 use native.Mathlib.Omega.{arith}
 use native.Mathlib.Nat.{div-add-mod, mod-lt}
 use lib.Dec.{ltb→lt}
-use lib.IntN.{ℤ, pos, negsuc, negℤ, _+ℤ_, _-ℤ_, _*ℤ_, negℤ-negℤ}
-use lib.Signed.{_≤ℤ_, _<ℤ_, shrZ, clashℤ}
+use lib.IntN.{ℤ, pos, negsuc, negℤ, _+ℤ_, _-ℤ_, _*ℤ_, negℤ-negℤ, zero-*ℤ}
+use lib.Signed.{_≤ℤ_, _<ℤ_, shrZ, clashℤ, <ℤ-≤ℤ-trans}
 use Rattle.integer.specs.Rounding.{floorDiv, ceilDiv}
 use Rattle.integer.proofs.Difference.{differences}
 use Rattle.integer.proofs.Linear.{linear, over}
-use Rattle.integer.proofs.Order.{trans, le-lt-trans, antisym, lt-le, lt-or-ge, next, mono}
+use Rattle.integer.proofs.Order.{also, prod, trans, turn-le, le-lt-trans, antisym, lt-le, lt-or-ge, next, mono}
 
 by-natural : (z : ℤ) (s : ℕ) → 0 < s → ((shrZ z s *ℤ pos s) ≤ℤ z) × (z <ℤ (shrZ z s *ℤ pos s +ℤ pos s))
 by-natural (pos a) s h = simp differences (omega (arith, div-add-mod a s, mod-lt a h))
@@ -106,3 +106,39 @@ ceil-unique z d k h l u =
 
 pub ceil-mono : (y z d : ℤ) → pos 0 <ℤ d → y ≤ℤ z → ceilDiv y d ≤ℤ ceilDiv z d
 ceil-mono y z d h l = ceil-iff y d (ceilDiv z d) h .1 (trans l (ceil-high z d h))
+
+pub floor-nonneg : (z d : ℤ) → pos 0 <ℤ d → (pos 0 ≤ℤ floorDiv z d) ↔ (pos 0 ≤ℤ z)
+floor-nonneg z d h = rw zero-*ℤ at (floor-iff z d (pos 0) h)
+
+-- by a greater divisor, what is not negative falls and what is negative grows
+module _ (z c d : ℤ) (h : pos 0 <ℤ c) (l : c ≤ℤ d) where
+  above : pos 0 <ℤ d
+  above = <ℤ-≤ℤ-trans h l
+
+  pub floor-falls : pos 0 ≤ℤ z → floorDiv z d ≤ℤ floorDiv z c
+  floor-falls n = floor-iff z c (floorDiv z d) h .1 (trans (less (floorDiv z d) c d (floor-nonneg z d above .1 n) l) (floor-low z d above))
+    where
+      less : (k c d : ℤ) → pos 0 ≤ℤ k → c ≤ℤ d → (k *ℤ c) ≤ℤ (k *ℤ d)
+      less = over 3 _ (λ ρ n l. also (prod n l) (simp (linear, ρ) (omega arith)))
+
+  pub floor-grows : z <ℤ pos 0 → floorDiv z c ≤ℤ floorDiv z d
+  floor-grows n = floor-iff z d (floorDiv z c) above .1 (trans (less (floorDiv z c) c d (negative (lt-or-ge (floorDiv z c) (pos 0))) l) (floor-low z c h))
+    where
+      less : (k c d : ℤ) → k ≤ℤ pos 0 → c ≤ℤ d → (k *ℤ d) ≤ℤ (k *ℤ c)
+      less = over 3 _ (λ ρ n l. also (prod n l) (simp (linear, ρ) (omega arith)))
+
+      negative : (floorDiv z c <ℤ pos 0) ⊎ (pos 0 ≤ℤ floorDiv z c) → floorDiv z c ≤ℤ pos 0
+      negative = ⊎-elim (λ k. lt-le k) (λ k. clashℤ n (floor-nonneg z c h .0 k))
+
+-- the ceiling likewise, by the floor of the negative
+module _ (z c d : ℤ) (h : pos 0 <ℤ c) (l : c ≤ℤ d) where
+  pub ceil-falls : pos 0 <ℤ z → ceilDiv z d ≤ℤ ceilDiv z c
+  unfolding ceilDiv
+  ceil-falls n = turn-le (floor-grows (negℤ z) c d h l (turn-pos z n))
+    where
+      turn-pos : (z : ℤ) → pos 0 <ℤ z → negℤ z <ℤ pos 0
+      turn-pos = over 1 _ (λ ρ. simp (linear, ρ) (omega arith))
+
+  pub ceil-grows : z ≤ℤ pos 0 → ceilDiv z c ≤ℤ ceilDiv z d
+  unfolding ceilDiv
+  ceil-grows n = turn-le (floor-falls (negℤ z) c d h l (turn-le n))

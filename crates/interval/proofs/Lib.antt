@@ -1,0 +1,3 @@
+pub mod Range
+pub mod Quotient
+pub mod Answer

@@ -1,0 +1,19 @@
+use borrow.Author.Needs.{needs}
+use lib.IntN.{+ℤ-idl}
+use Rattle.interval.specs.Interval.{negated}
+use Rattle.interval.proofs.Range.{Sound, is-sound, turn-fits}
+use Rattle.interval.proofs.internal.negation.Statement.{statement}
+use Rattle.interval.proofs.internal.negation.Tie as tie
+
+sub-lo : tie.Need-sub-lo
+sub-lo c = let h = is-sound _ (c .before .before .pre) in search (needs, turn-fits)
+
+sub-hi : tie.Need-sub-hi
+sub-hi c = let h = is-sound _ (c .before .before .before .before .pre) in search (needs, turn-fits)
+
+returns : tie.Need-returns
+unfolding negated
+returns c = let h = is-sound _ (c .before .before .before .before .pre) in search (needs, turn-fits, +ℤ-idl)
+
+pub negation-spec : {M : Type 1} → statement M
+negation-spec = tie.close (tie.spec sub-lo sub-hi returns)

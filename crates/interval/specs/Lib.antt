@@ -1,0 +1,3 @@
+pub mod Interval
+pub mod Size
+pub mod Answer
