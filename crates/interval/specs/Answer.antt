@@ -17,7 +17,7 @@ pub record Answer : Type 0 where
   pub lower : ℤ
   pub upper : ℤ
 
-abbrev answer : Outcome → Interval → Answer
+abbrev pub answer : Outcome → Interval → Answer
 answer o v = record { number = Table.paper o .number; place = Table.paper o .place; lower = v .lo; upper = v .hi }
 
 -- document 01 leaves the interval of a refusal free: it is nought

@@ -17,9 +17,12 @@ lowest = negsuc 1999999999
 unfoldable pub highest : ℤ
 highest = pos 2000000000
 
--- 'Nought, one (1,000,000 units) and the interval of a single number'
+-- an interval from its two ends; 'Nought, one (1,000,000 units) and the interval of a single number'
+abbrev pub ends : ℤ → ℤ → Interval
+ends l u = record { lo = l; hi = u }
+
 abbrev pub point : ℤ → Interval
-point z = record { lo = z; hi = z }
+point z = ends z z
 
 abbrev pub zero : Interval
 zero = point (pos 0)
