@@ -1,11 +1,11 @@
 -- Minimum and maximum: below both and above both, and no less or more than that; what a test of the code says of them.
-use mathlib.Core.Path.{_≡_}
+use mathlib.Core.Path.{_≡_, sym}
 use mathlib.Core.Bool.{true, false}
 use mathlib.Core.Logic.{⊎-elim}
-use lib.IntN.{ℤ}
+use lib.IntN.{ℤ, negℤ}
 use lib.Signed.{_≤ℤ_, _<ℤ_, ltZ, ≤ℤ-refl}
 use Rattle.integer.specs.Extremes.{minimum, maximum}
-use Rattle.integer.proofs.Order.{antisym, lt-or-ge, lt-le, yes-lt, no-lt}
+use Rattle.integer.proofs.Order.{turn-le, antisym, lt-or-ge, lt-le, yes-lt, no-lt}
 
 module _ (a b : ℤ) where
   pub min-right : ltZ b a ≡ true → b ≡ minimum a b
@@ -66,6 +66,9 @@ module _ {a b : ℤ} where
 
 pub min-comm : (a b : ℤ) → minimum a b ≡ minimum b a
 min-comm a b = antisym _ _ (le-min b a _ (min-le-right a b) (min-le-left a b)) (le-min a b _ (min-le-right b a) (min-le-left b a))
+
+pub neg-max : (a b : ℤ) → negℤ (maximum a b) ≡ minimum (negℤ a) (negℤ b)
+neg-max a b = max-ind a b (λ m. negℤ m ≡ minimum (negℤ a) (negℤ b)) (λ e. sym (min-is-right (turn-le (lt-le e)))) (λ e. sym (min-is-left (turn-le e)))
 
 pub max-comm : (a b : ℤ) → maximum a b ≡ maximum b a
 max-comm a b = antisym _ _ (max-le a b _ (le-max-right b a) (le-max-left b a)) (max-le b a _ (le-max-right a b) (le-max-left a b))

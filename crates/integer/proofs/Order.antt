@@ -84,6 +84,12 @@ turn-le {a} {b} = go a b
     go : (a b : ℤ) → a ≤ℤ b → negℤ b ≤ℤ negℤ a
     go = over 2 _ (λ ρ. simp linear (omega arith))
 
+pub turn-lt : {a b : ℤ} → a <ℤ b → negℤ b <ℤ negℤ a
+turn-lt {a} {b} = go a b
+  where
+    go : (a b : ℤ) → a <ℤ b → negℤ b <ℤ negℤ a
+    go = over 2 _ (λ ρ. simp linear (omega arith))
+
 pub neg-pos : {a : ℤ} → a <ℤ pos 0 → pos 0 <ℤ negℤ a
 neg-pos {a} = go a
   where
@@ -116,8 +122,12 @@ cancel a b c h l = ⊎-elim (λ (k : b <ℤ a). clashℤ (mono-strict b a c h k)
 pub both-pos : (a b : ℤ) → pos 0 <ℤ a → pos 0 <ℤ b → pos 0 <ℤ (a *ℤ b)
 both-pos = over 2 _ (λ ρ h k. also (prod (next h) (next k)) (also h (also k (simp (linear, ρ) (omega arith)))))
 
+-- m·c ≤ z < (k + 1)·c only where m ≤ k
+pub whole-below : (m k z c : ℤ) → pos 0 <ℤ c → (m *ℤ c) ≤ℤ z → z <ℤ ((k +ℤ pos 1) *ℤ c) → m ≤ℤ k
+whole-below m k z c h l u = ⊎-elim (λ (g : k <ℤ m). clashℤ u (trans (mono (k +ℤ pos 1) m c (lt-le h) (next g)) l)) (λ g. g) (lt-or-ge k m)
+
 -- ---- x between a and b, y between c and d: what is at most each of the four corner products is at most x·y
-between : (a b x y m : ℤ) → a ≤ℤ x → x ≤ℤ b → m ≤ℤ (a *ℤ y) → m ≤ℤ (b *ℤ y) → m ≤ℤ (x *ℤ y)
+pub between : (a b x y m : ℤ) → a ≤ℤ x → x ≤ℤ b → m ≤ℤ (a *ℤ y) → m ≤ℤ (b *ℤ y) → m ≤ℤ (x *ℤ y)
 between a b x y m h k p q = ⊎-elim (λ l. below b x y m k q (lt-le l)) (λ l. above a x y m h p l) (lt-or-ge y (pos 0))
   where
     above : (a x y m : ℤ) → a ≤ℤ x → m ≤ℤ (a *ℤ y) → pos 0 ≤ℤ y → m ≤ℤ (x *ℤ y)

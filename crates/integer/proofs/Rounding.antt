@@ -10,7 +10,7 @@ use lib.Signed.{_≤ℤ_, _<ℤ_, shrZ, clashℤ, <ℤ-≤ℤ-trans}
 use Rattle.integer.specs.Rounding.{floorDiv, ceilDiv}
 use Rattle.integer.proofs.Difference.{differences}
 use Rattle.integer.proofs.Linear.{linear, over}
-use Rattle.integer.proofs.Order.{also, prod, trans, turn-le, le-lt-trans, antisym, lt-le, lt-or-ge, next, mono}
+use Rattle.integer.proofs.Order.{also, prod, trans, turn-le, turn-lt, whole-below, antisym, lt-le, lt-or-ge, mono}
 
 by-natural : (z : ℤ) (s : ℕ) → 0 < s → ((shrZ z s *ℤ pos s) ≤ℤ z) × (z <ℤ (shrZ z s *ℤ pos s +ℤ pos s))
 by-natural (pos a) s h = simp differences (omega (arith, div-add-mod a s, mod-lt a h))
@@ -28,24 +28,24 @@ module _ (z d : ℤ) (h : pos 0 <ℤ d) where
   pub floor-high : z <ℤ (floorDiv z d *ℤ d +ℤ d)
   floor-high = floor-both z d h .1
 
--- k·d below (f + 1)·d only where k ≤ f
-below : (k f d : ℤ) → pos 0 <ℤ d → (k *ℤ d) <ℤ (f *ℤ d +ℤ d) → k ≤ℤ f
-below k f d h l = ⊎-elim (λ (g : f <ℤ k). clashℤ l (above f k d (mono (f +ℤ pos 1) k d (lt-le h) (next g)))) (λ g. g) (lt-or-ge f k)
+-- k·d ≤ z < (f + 1)·d only where k ≤ f
+below : (z k f d : ℤ) → pos 0 <ℤ d → (k *ℤ d) ≤ℤ z → z <ℤ (f *ℤ d +ℤ d) → k ≤ℤ f
+below z k f d h l u = whole-below k f z d h l (rewritten f d z u)
   where
-    above : (f k d : ℤ) → ((f +ℤ pos 1) *ℤ d) ≤ℤ (k *ℤ d) → (f *ℤ d +ℤ d) ≤ℤ (k *ℤ d)
-    above = over 3 _ (λ ρ. simp (linear, ρ) (omega arith))
+    rewritten : (f d z : ℤ) → z <ℤ (f *ℤ d +ℤ d) → z <ℤ ((f +ℤ pos 1) *ℤ d)
+    rewritten = over 3 _ (λ ρ. simp (linear, ρ) (omega arith))
 
 -- the floor is the greatest k with k·d ≤ z
 pub floor-iff : (z d k : ℤ) → pos 0 <ℤ d → (k ≤ℤ floorDiv z d) ↔ ((k *ℤ d) ≤ℤ z)
 floor-iff z d k h = (
   (λ l. trans (mono k (floorDiv z d) d (lt-le h) l) (floor-low z d h)),
-  (λ l. below k (floorDiv z d) d h (le-lt-trans l (floor-high z d h))),
+  (λ l. below z k (floorDiv z d) d h l (floor-high z d h)),
 )
 
 -- and the only number with these bounds
 pub floor-unique : (z d k : ℤ) → pos 0 <ℤ d → (k *ℤ d) ≤ℤ z → z <ℤ (k *ℤ d +ℤ d) → k ≡ floorDiv z d
 floor-unique z d k h l u =
-    antisym k (floorDiv z d) (floor-iff z d k h .1 l) (below (floorDiv z d) k d h (le-lt-trans (floor-low z d h) u))
+    antisym k (floorDiv z d) (floor-iff z d k h .1 l) (below z (floorDiv z d) k d h (floor-low z d h) u)
 
 pub floor-mono : (y z d : ℤ) → pos 0 <ℤ d → y ≤ℤ z → floorDiv y d ≤ℤ floorDiv z d
 floor-mono y z d h l = floor-iff z d (floorDiv y d) h .1 (trans (floor-low y d h) l)
@@ -134,10 +134,7 @@ module _ (z c d : ℤ) (h : pos 0 <ℤ c) (l : c ≤ℤ d) where
 module _ (z c d : ℤ) (h : pos 0 <ℤ c) (l : c ≤ℤ d) where
   pub ceil-falls : pos 0 <ℤ z → ceilDiv z d ≤ℤ ceilDiv z c
   unfolding ceilDiv
-  ceil-falls n = turn-le (floor-grows (negℤ z) c d h l (turn-pos z n))
-    where
-      turn-pos : (z : ℤ) → pos 0 <ℤ z → negℤ z <ℤ pos 0
-      turn-pos = over 1 _ (λ ρ. simp (linear, ρ) (omega arith))
+  ceil-falls n = turn-le (floor-grows (negℤ z) c d h l (turn-lt n))
 
   pub ceil-grows : z ≤ℤ pos 0 → ceilDiv z c ≤ℤ ceilDiv z d
   unfolding ceilDiv

@@ -1,3 +1,4 @@
 pub mod Range
+pub mod Corners
 pub mod Quotient
 pub mod Answer

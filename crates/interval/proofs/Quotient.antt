@@ -7,10 +7,11 @@ use Rattle.integer.specs.Extremes.{minimum, maximum}
 use Rattle.integer.proofs.Linear.{reading, ring, over}
 use Rattle.integer.proofs.Order.{trans, le-lt-trans, mono, neg-pos}
 use Rattle.integer.proofs.Rounding.{floor-mono, ceil-mono, floor-turn, ceil-turn}
-use Rattle.integer.proofs.Extremes.{min-le-left, min-le-right, le-max-left, le-max-right, le-min, max-le, min-is-left, max-is-right, min-comm, max-comm}
+use Rattle.integer.proofs.Extremes.{min-le-left, min-le-right, le-max-left, le-max-right, le-min, max-le, min-is-left, max-is-right}
 use Rattle.interval.specs.declared.Interval.{Interval}
-use Rattle.interval.specs.Interval.{least, greatest, quotientAt, negated}
+use Rattle.interval.specs.Interval.{quotientAt, negated}
 use Rattle.interval.proofs.Range.{same-ends}
+use Rattle.interval.proofs.Corners.{least-back, greatest-back}
 
 -- ---- a ≤ b over 0 < c ≤ d: the lowest floor is one of a's, the highest ceiling one of b's
 pub positive : (s : ℤ) (x y : Interval) → pos 0 ≤ℤ s → x .lo ≤ℤ x .hi → pos 0 <ℤ y .lo → y .lo ≤ℤ y .hi
@@ -41,16 +42,10 @@ module _ (a s d : ℤ) (n : d <ℤ pos 0) where
   pub ceil-negative : ceilDiv (negℤ a *ℤ s) (negℤ d) ≡ ceilDiv (a *ℤ s) d
   ceil-negative = ap (λ z. ceilDiv z (negℤ d)) (neg-mul a s) ∙ sym (ceil-turn (a *ℤ s) (negℤ d) (neg-pos n)) ∙ ap (ceilDiv (a *ℤ s)) (negℤ-negℤ d)
 
-turn-min : (a b c d : ℤ) → least a b c d ≡ least d c b a
-turn-min a b c d = min-comm _ _ ∙ ap₂ minimum (min-comm c d) (min-comm a b)
-
-turn-max : (a b c d : ℤ) → greatest a b c d ≡ greatest d c b a
-turn-max a b c d = max-comm _ _ ∙ ap₂ maximum (max-comm c d) (max-comm a b)
-
 pub quotient-turned : (s : ℤ) (x y : Interval) → y .lo ≤ℤ y .hi → y .hi <ℤ pos 0 → quotientAt s (negated x) (negated y) ≡ quotientAt s x y
-unfolding quotientAt negated
+unfolding quotientAt
 quotient-turned s x y o n =
     let m = le-lt-trans o n in
     same-ends _ _
-    (rw (floor-negative (x .lo) s (y .lo) m, floor-negative (x .lo) s (y .hi) n, floor-negative (x .hi) s (y .lo) m, floor-negative (x .hi) s (y .hi) n) (turn-min _ _ _ _))
-    (rw (ceil-negative (x .lo) s (y .lo) m, ceil-negative (x .lo) s (y .hi) n, ceil-negative (x .hi) s (y .lo) m, ceil-negative (x .hi) s (y .hi) n) (turn-max _ _ _ _))
+    (rw (floor-negative (x .lo) s (y .lo) m, floor-negative (x .lo) s (y .hi) n, floor-negative (x .hi) s (y .lo) m, floor-negative (x .hi) s (y .hi) n) (least-back _ _ _ _))
+    (rw (ceil-negative (x .lo) s (y .lo) m, ceil-negative (x .lo) s (y .hi) n, ceil-negative (x .hi) s (y .lo) m, ceil-negative (x .hi) s (y .hi) n) (greatest-back _ _ _ _))

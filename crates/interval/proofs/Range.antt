@@ -5,7 +5,7 @@ use mathlib.Core.Logic.{_⊎_, inl, inr, ⊎-elim}
 use native.Mathlib.Omega.{arith}
 use lib.Dec.{T}
 use lib.IntN.{ℤ, pos, negsuc, negℤ, _+ℤ_, _-ℤ_, _*ℤ_}
-use lib.Signed.{_≤ℤ_, _<ℤ_, leZ, leZ-yes, clashℤ}
+use lib.Signed.{_≤ℤ_, _<ℤ_, leZ, leZ-yes, ltZ-yes, clashℤ}
 use mir.Syntax.{w64}
 use mir.Val.{SFits, toZ, ofZ}
 use mir.ValLaws.{toZ-ofZ}
@@ -13,7 +13,7 @@ use Rattle.integer.proofs.Linear.{linear, over}
 use Rattle.integer.proofs.Order.{also, prod, le-taken, le-left, yes-le, turn-le}
 use Rattle.integer.proofs.Machine.{fits64, op-read}
 use Rattle.interval.specs.declared.Interval.{Interval}
-use Rattle.interval.specs.Interval.{scale, lowest, highest, inside, inRange, acceptable, containsZero, exactSum, exactDifference, negated}
+use Rattle.interval.specs.Interval.{scale, lowest, highest, within, inRange, acceptable, containsZero, exactSum, exactDifference, negated}
 use Rattle.interval.specs.Size.{Representable}
 
 pub and-both : (a b : Bool) → (a && b) ≡ true → (a ≡ true) × (b ≡ true)
@@ -21,36 +21,36 @@ and-both true b e = (refl, e)
 and-both false b e = absurd (subst T (sym e) tt)
 
 -- a number in the range
-pub record Inside (z : ℤ) : Type 0 where
+pub record Within (z : ℤ) : Type 0 where
   pub low : lowest ≤ℤ z
   pub high : z ≤ℤ highest
 
-pub is-inside : (z : ℤ) → inside z ≡ true → Inside z
-unfolding inside
-is-inside z e =
+pub is-within : (z : ℤ) → within z ≡ true → Within z
+unfolding within
+is-within z e =
     let b = and-both (leZ lowest z) (leZ z highest) e in
     record { low = le-taken lowest z (b .0); high = le-taken z highest (b .1) }
 
 -- an interval that is acceptable
 pub record Sound (v : Interval) : Type 0 where
   pub order : v .lo ≤ℤ v .hi
-  pub lo-in : Inside (v .lo)
-  pub hi-in : Inside (v .hi)
+  pub lo-in : Within (v .lo)
+  pub hi-in : Within (v .hi)
 
 pub is-sound : (v : Interval) → acceptable v ≡ true → Sound v
 unfolding acceptable inRange
 is-sound v e =
     let b = and-both (leZ (v .lo) (v .hi)) (inRange v) e in
-    let r = and-both (inside (v .lo)) (inside (v .hi)) (b .1) in
-    record { order = le-taken (v .lo) (v .hi) (b .0); lo-in = is-inside (v .lo) (r .0); hi-in = is-inside (v .hi) (r .1) }
+    let r = and-both (within (v .lo)) (within (v .hi)) (b .1) in
+    record { order = le-taken (v .lo) (v .hi) (b .0); lo-in = is-within (v .lo) (r .0); hi-in = is-within (v .hi) (r .1) }
 
-inside-yes : (z : ℤ) → Inside z → inside z ≡ true
-unfolding inside
-inside-yes z h = rw (yes-le lowest z (h .low)) (yes-le z highest (h .high))
+within-yes : (z : ℤ) → Within z → within z ≡ true
+unfolding within
+within-yes z h = rw (yes-le lowest z (h .low)) (yes-le z highest (h .high))
 
 pub sound-accepted : (v : Interval) → Sound v → acceptable v ≡ true
 unfolding acceptable inRange
-sound-accepted v h = rw (yes-le (v .lo) (v .hi) (h .order), inside-yes (v .lo) (h .lo-in)) (inside-yes (v .hi) (h .hi-in))
+sound-accepted v h = rw (yes-le (v .lo) (v .hi) (h .order), within-yes (v .lo) (h .lo-in)) (within-yes (v .hi) (h .hi-in))
 
 -- ends in sequence and in the range
 pub accept : (v : Interval) → v .lo ≤ℤ v .hi → inRange v ≡ true → acceptable v ≡ true
@@ -58,61 +58,65 @@ unfolding acceptable
 accept v h e = rw (yes-le (v .lo) (v .hi) h, e)
 
 -- what the range test makes of its two halves
-pub range-rest : (v : Interval) → inside (v .lo) ≡ true → inside (v .hi) ≡ inRange v
+pub range-rest : (v : Interval) → within (v .lo) ≡ true → within (v .hi) ≡ inRange v
 unfolding inRange
 range-rest v e = rw e
 
-pub range-no : (v : Interval) → inside (v .lo) ≡ false → false ≡ inRange v
+pub range-no : (v : Interval) → within (v .lo) ≡ false → false ≡ inRange v
 unfolding inRange
 range-no v e = rw e
 
 -- ---- what fits an i64
-pub sum-fits : {a b : ℤ} → Inside a → Inside b → SFits w64 (a +ℤ b)
+pub sum-fits : {a b : ℤ} → Within a → Within b → SFits w64 (a +ℤ b)
 unfolding lowest highest
 sum-fits {a} {b} h k = go a b (h .low) (h .high) (k .low) (k .high)
   where
     go : (a b : ℤ) → negsuc 1999999999 ≤ℤ a → a ≤ℤ pos 2000000000 → negsuc 1999999999 ≤ℤ b → b ≤ℤ pos 2000000000 → SFits w64 (a +ℤ b)
     go = over 2 _ (λ ρ. simp (fits64, linear, ρ) (omega arith))
 
-pub difference-fits : {a b : ℤ} → Inside a → Inside b → SFits w64 (a -ℤ b)
+pub difference-fits : {a b : ℤ} → Within a → Within b → SFits w64 (a -ℤ b)
 unfolding lowest highest
 difference-fits {a} {b} h k = go a b (h .low) (h .high) (k .low) (k .high)
   where
     go : (a b : ℤ) → negsuc 1999999999 ≤ℤ a → a ≤ℤ pos 2000000000 → negsuc 1999999999 ≤ℤ b → b ≤ℤ pos 2000000000 → SFits w64 (a -ℤ b)
     go = over 2 _ (λ ρ. simp (fits64, linear, ρ) (omega arith))
 
-pub turn-fits : {z : ℤ} → Inside z → SFits w64 (pos 0 -ℤ z)
+pub turn-fits : {z : ℤ} → Within z → SFits w64 (pos 0 -ℤ z)
 unfolding lowest highest
 turn-fits {z} h = go z (h .low) (h .high)
   where
     go : (z : ℤ) → negsuc 1999999999 ≤ℤ z → z ≤ℤ pos 2000000000 → SFits w64 (pos 0 -ℤ z)
     go = over 1 _ (λ ρ. simp (fits64, linear, ρ) (omega arith))
 
-pub product-fits : {a b : ℤ} → Inside a → Inside b → SFits w64 (a *ℤ b)
+pub product-fits : {a b : ℤ} → Within a → Within b → SFits w64 (a *ℤ b)
 unfolding lowest highest
 product-fits {a} {b} h k = go a b (h .low) (h .high) (k .low) (k .high)
   where
     go : (a b : ℤ) → negsuc 1999999999 ≤ℤ a → a ≤ℤ pos 2000000000 → negsuc 1999999999 ≤ℤ b → b ≤ℤ pos 2000000000 → SFits w64 (a *ℤ b)
     go = over 2 _ (λ ρ h₁ h₂ k₁ k₂. also (prod h₁ k₁) (also (prod h₁ k₂) (also (prod h₂ k₁) (also (prod h₂ k₂) (simp (fits64, linear, ρ) (omega arith))))))
 
-pub inside-fits : {z : ℤ} → Inside z → SFits w64 z
+pub within-fits : {z : ℤ} → Within z → SFits w64 z
 unfolding lowest highest
-inside-fits {z} h = go z (h .low) (h .high)
+within-fits {z} h = go z (h .low) (h .high)
   where
     go : (z : ℤ) → negsuc 1999999999 ≤ℤ z → z ≤ℤ pos 2000000000 → SFits w64 z
     go = over 1 _ (λ ρ. simp (fits64, linear, ρ) (omega arith))
 
 -- a product of two ends, as the code has it
-product-read : {a b : ℤ} → Inside a → Inside b → toZ w64 (ofZ w64 (toZ w64 (ofZ w64 a) *ℤ toZ w64 (ofZ w64 b))) ≡ a *ℤ b
-product-read {a} {b} h k = op-read _*ℤ_ a b (inside-fits h) (inside-fits k) (product-fits h k)
+product-read : {a b : ℤ} → Within a → Within b → toZ w64 (ofZ w64 (toZ w64 (ofZ w64 a) *ℤ toZ w64 (ofZ w64 b))) ≡ a *ℤ b
+product-read {a} {b} h k = op-read _*ℤ_ a b (within-fits h) (within-fits k) (product-fits h k)
 
-pub scale-inside : Inside scale
+pub scale-above : pos 0 <ℤ scale
+unfolding scale
+scale-above = ltZ-yes tt
+
+pub scale-within : Within scale
 unfolding scale lowest highest
-scale-inside = record { low = leZ-yes tt; high = leZ-yes tt }
+scale-within = record { low = leZ-yes tt; high = leZ-yes tt }
 
 -- an end in parts of a unit, as the code has it
-pub scaled-read : {z : ℤ} → Inside z → toZ w64 (ofZ w64 (toZ w64 (ofZ w64 z) *ℤ scale)) ≡ z *ℤ scale
-scaled-read {z} h = rw (toZ-ofZ w64 z (inside-fits h)) (toZ-ofZ w64 (z *ℤ scale) (product-fits h scale-inside))
+pub scaled-read : {z : ℤ} → Within z → toZ w64 (ofZ w64 (toZ w64 (ofZ w64 z) *ℤ scale)) ≡ z *ℤ scale
+scaled-read {z} h = rw (toZ-ofZ w64 z (within-fits h)) (toZ-ofZ w64 (z *ℤ scale) (product-fits h scale-within))
 
 -- the four products of ends, as the code has them
 pub products-read : (f : ℤ → ℤ → ℤ → ℤ → ℤ) {x y : Interval} → Sound x → Sound y
@@ -133,9 +137,9 @@ unfolding exactDifference
 difference-representable h k = record { lo-fits = difference-fits (h .lo-in) (k .hi-in); hi-fits = difference-fits (h .hi-in) (k .lo-in) }
 
 -- ---- all signs turned
-pub negated-inside : {z : ℤ} → Inside z → Inside (negℤ z)
+pub negated-within : {z : ℤ} → Within z → Within (negℤ z)
 unfolding lowest highest
-negated-inside {z} h = record { low = low z (h .high); high = high z (h .low) }
+negated-within {z} h = record { low = low z (h .high); high = high z (h .low) }
   where
     low : (z : ℤ) → z ≤ℤ pos 2000000000 → negsuc 1999999999 ≤ℤ negℤ z
     low = over 1 _ (λ ρ. simp (linear, ρ) (omega arith))
@@ -144,8 +148,7 @@ negated-inside {z} h = record { low = low z (h .high); high = high z (h .low) }
     high = over 1 _ (λ ρ. simp (linear, ρ) (omega arith))
 
 pub negated-sound : {v : Interval} → Sound v → Sound (negated v)
-unfolding negated
-negated-sound h = record { order = turn-le (h .order); lo-in = negated-inside (h .hi-in); hi-in = negated-inside (h .lo-in) }
+negated-sound h = record { order = turn-le (h .order); lo-in = negated-within (h .hi-in); hi-in = negated-within (h .lo-in) }
 
 pub same-ends : (x y : Interval) → x .lo ≡ y .lo → x .hi ≡ y .hi → x ≡ y
 same-ends x y e f = λ i. record { lo = e i; hi = f i }

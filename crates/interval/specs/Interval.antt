@@ -31,11 +31,11 @@ abbrev pub one : Interval
 one = point scale
 
 -- a number in the range, and both ends of an interval
-unfoldable pub inside : ℤ → Bool
-inside z = leZ lowest z && leZ z highest
+unfoldable pub within : ℤ → Bool
+within z = leZ lowest z && leZ z highest
 
 unfoldable pub inRange : Interval → Bool
-inRange v = inside (v .lo) && inside (v .hi)
+inRange v = within (v .lo) && within (v .hi)
 
 -- 'An interval is a lower and an upper end, lower not above upper', both in the range
 unfoldable pub acceptable : Interval → Bool
@@ -82,7 +82,7 @@ abbrev pub quotient : Interval → Interval → Interval
 quotient = quotientAt scale
 
 -- all signs turned
-unfoldable pub negated : Interval → Interval
+abbrev pub negated : Interval → Interval
 negated v = record { lo = negℤ (v .hi); hi = negℤ (v .lo) }
 
 unfoldable pub intersection : Interval → Interval → Interval

@@ -9,11 +9,11 @@ ghost use lib.IntN.{pos};
 ghost use lib.Signed.{_≤ℤ_, _<ℤ_};
 ghost use Rattle.integer.specs.Rounding.{floorDiv, ceilDiv};
 ghost use Rattle.integer.specs.Extremes.{minimum, maximum};
-ghost use Rattle.interval.specs.Interval.{inside, inRange, acceptable, containsZero, exactSum, exactDifference, product, quotient, intersection, least, greatest, negated};
+ghost use Rattle.interval.specs.Interval.{within, inRange, acceptable, containsZero, exactSum, exactDifference, product, quotient, intersection, least, greatest, negated};
 ghost use Rattle.interval.specs.Size.{Representable};
 
 fn within(z: i64) -> bool
-    ensures { λ r. ⌜ r ≡ inside z ⌝ }
+    ensures { λ r. ⌜ r ≡ within z ⌝ }
 {
     if Interval::LOWEST <= z {
         return z <= Interval::HIGHEST;

@@ -12,7 +12,6 @@ sub-hi : tie.Need-sub-hi
 sub-hi c = let h = is-sound _ (c .before .before .before .before .pre) in search (needs, turn-fits)
 
 returns : tie.Need-returns
-unfolding negated
 returns c = let h = is-sound _ (c .before .before .before .before .pre) in search (needs, turn-fits, +ℤ-idl)
 
 pub negation-spec : {M : Type 1} → statement M

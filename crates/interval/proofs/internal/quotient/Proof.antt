@@ -8,7 +8,7 @@ use mir.ValLaws.{toZ-ofZ}
 use Rattle.integer.proofs.Order.{taken, left, neg-pos}
 use Rattle.interval.specs.declared.Interval.{Interval}
 use Rattle.interval.specs.Interval.{scale, negated, acceptable, quotient}
-use Rattle.interval.proofs.Range.{is-sound, sound-accepted, inside-fits, negated-sound, all-below}
+use Rattle.interval.proofs.Range.{is-sound, sound-accepted, within-fits, negated-sound, all-below}
 use Rattle.interval.proofs.Quotient.{quotient-turned}
 use Rattle.interval.proofs.internal.quotient.Statement.{statement}
 use Rattle.interval.proofs.internal.quotient.Tie as tie
@@ -17,7 +17,7 @@ quotient-by-positive-requires : tie.Need-quotient-by-positive-requires
 quotient-by-positive-requires c κs =
     let s = c .before .before .before in
     let y = is-sound _ (s .pre .1 .0) in
-    (s .pre .0, (s .pre .1 .0, taken _ _ (rw (toZ-ofZ w64 _ (inside-fits (y .lo-in))) at (c .if1 .taken))))
+    (s .pre .0, (s .pre .1 .0, taken _ _ (rw (toZ-ofZ w64 _ (within-fits (y .lo-in))) at (c .if1 .taken))))
 
 returns : tie.Need-returns
 returns c = search needs
@@ -33,13 +33,12 @@ below : (c : tie.Else1) → c .before .before .before .args .y .hi <ℤ pos 0
 below c =
     let s = c .before .before .before in
     let y = is-sound _ (s .pre .1 .0) in
-    all-below _ (s .pre .1 .1) (left _ _ (rw (toZ-ofZ w64 _ (inside-fits (y .lo-in))) at (c .if1 .left)))
+    all-below _ (s .pre .1 .1) (left _ _ (rw (toZ-ofZ w64 _ (within-fits (y .lo-in))) at (c .if1 .left)))
 
 turned : (v : Interval) → acceptable v ≡ true → acceptable (negated v) ≡ true
 turned v e = sound-accepted (negated v) (negated-sound (is-sound v e))
 
 quotient-by-positive-requires-2 : tie.Need-quotient-by-positive-requires-2
-unfolding negated
 quotient-by-positive-requires-2 c κs =
     let m = c .before in
     let s = m .before .before .before .before in

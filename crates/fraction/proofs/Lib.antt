@@ -1,0 +1,6 @@
+pub mod Inside
+pub mod Hull
+pub mod Sum
+pub mod Product
+pub mod Quotient
+pub mod Meaning

@@ -1,0 +1,1 @@
+// Exact fractions, and what the interval steps mean for them. Statements in specs/, proofs in proofs/.
