@@ -91,6 +91,10 @@ hull f =
       narrowest = λ h k. narrowest (f h k);
     }
 
+-- what holds a result has its ends in sequence
+pub hull-order : {R : Operation} {x y v : Interval} → Hull R x y v → x .lo ≤ℤ x .hi → y .lo ≤ℤ y .hi → v .lo ≤ℤ v .hi
+hull-order f h k = in-order (f .holds _ (f .tight h k .low-in))
+
 -- ---- an upper end from a lower end
 pub upper-of : {P Q : Fraction → Type 0} {k : ℤ} → ((c : Fraction) → P c → Q (opposite c)) → ((c : Fraction) → Q c → P (opposite c)) → Lower Q k →
     Lower (λ c. P (opposite c)) k

@@ -4,12 +4,15 @@ use lib.IntN.{ℤ, negℤ}
 use lib.Signed.{_≤ℤ_}
 use Rattle.integer.specs.Extremes.{minimum, maximum}
 use Rattle.integer.proofs.Order.{trans}
-use Rattle.integer.proofs.Extremes.{min-ind, min-le-left, min-le-right, min-comm, max-comm, neg-max}
+use Rattle.integer.proofs.Extremes.{min-ind, max-ind, min-le-left, min-le-right, min-comm, max-comm, neg-max}
 use Rattle.interval.specs.Interval.{least, greatest}
 
 module _ (a b c d : ℤ) where
   pub least-ind : (P : ℤ → Type 0) → P a → P b → P c → P d → P (least a b c d)
   least-ind P p q r t = min-ind (minimum a b) (minimum c d) P (λ e. min-ind c d P (λ e. t) (λ e. r)) (λ e. min-ind a b P (λ e. q) (λ e. p))
+
+  pub greatest-ind : (P : ℤ → Type 0) → P a → P b → P c → P d → P (greatest a b c d)
+  greatest-ind P p q r t = max-ind (maximum a b) (maximum c d) P (λ e. max-ind c d P (λ e. t) (λ e. r)) (λ e. max-ind a b P (λ e. q) (λ e. p))
 
   pub least-first : least a b c d ≤ℤ a
   least-first = trans (min-le-left _ _) (min-le-left a b)

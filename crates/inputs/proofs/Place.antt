@@ -1,0 +1,61 @@
+-- Reading and writing one interval of a list.
+use mathlib.Core.Path.{_≡_, refl, sym, ap, ap₂, _∙_}
+use mathlib.Core.Bool.{true}
+use mathlib.Core.Logic.{_≢_}
+use mathlib.Core.List.{List}
+use Prim.Native.Nat.{ℕ, _+_, _*_, _≤_, _<_}
+use native.Mathlib.Omega.{arith}
+use native.Mathlib.Nat.{zero-add}
+use native.Mathlib.Decide.{decLt, ℕ-discrete}
+use lib.IntN.{ℤ, pos}
+use lib.ListN.{getD, set, length, length-set, List·getD-eq-default}
+use lib.Seq.{getD-set-same, getD-set-other}
+use Rattle.interval.specs.declared.Interval.{Interval}
+use Rattle.interval.specs.Interval.{zero, acceptable, lowest, highest, within, inRange}
+use Rattle.interval.proofs.Range.{same-ends}
+use Rattle.inputs.specs.Place.{at, Sound, put}
+use Rattle.inputs.specs.declared.Test.the-variants.{Pass}
+use Rattle.inputs.specs.Tests.{proper}
+use Rattle.inputs.proofs.Tests.{proper-each}
+
+pub length-put : (t : List ℤ) (p : ℕ) (v : Interval) → length (put t p v) ≡ length t
+unfolding put
+length-put t p v = simp length-set
+
+pub at-put-same : (t : List ℤ) (p : ℕ) (v : Interval) → 2 * p + 1 < length t → at (put t p v) p ≡ v
+unfolding at put
+at-put-same t p v h =
+    same-ends _ _
+    (getD-set-other (set t (2 * p) (v .lo)) (2 * p + 1) (2 * p) (v .hi) (pos 0) (omega arith) ∙ getD-set-same t (2 * p) (v .lo) (pos 0) (omega arith))
+    (getD-set-same (set t (2 * p) (v .lo)) (2 * p + 1) (v .hi) (pos 0) (simp length-set (omega arith)))
+
+pub at-put-other : (t : List ℤ) (p q : ℕ) (v : Interval) → q ≢ p → at (put t p v) q ≡ at t q
+unfolding at put
+at-put-other t p q v h =
+    same-ends _ _
+    (getD-set-other (set t (2 * p) (v .lo)) (2 * p + 1) (2 * q) (v .hi) (pos 0) (omega arith) ∙ getD-set-other t (2 * p) (2 * q) (v .lo) (pos 0) (omega arith))
+    (getD-set-other (set t (2 * p) (v .lo)) (2 * p + 1) (2 * q + 1) (v .hi) (pos 0) (omega arith) ∙ getD-set-other t (2 * p) (2 * q + 1) (v .lo) (pos 0) (omega arith))
+
+pub sound-put : (t : List ℤ) (p : ℕ) (v : Interval) → Sound t → 2 * p + 1 < length t → acceptable v ≡ true → Sound (put t p v)
+sound-put t p v h l e = record { each = λ q. go q (ℕ-discrete q p) }
+  where
+    go : (q : ℕ) → Dec (q ≡ p) → acceptable (at (put t p v) q) ≡ true
+    go q (yes f) = rw (f, at-put-same t p v l) e
+    go q (no f) = rw (at-put-other t p q v f) (h .each q)
+
+-- past the end
+pub at-past : (t : List ℤ) (p : ℕ) → length t ≤ 2 * p → at t p ≡ zero
+unfolding at
+at-past t p h = same-ends _ _ (List·getD-eq-default t (pos 0) h) (List·getD-eq-default t (pos 0) (omega arith))
+
+-- a slice whose intervals were tested
+zero-accepted : acceptable zero ≡ true
+unfolding acceptable inRange within lowest highest
+zero-accepted = refl
+
+pub proper-sound : (t : List ℤ) (count from : ℕ) → length t ≡ 2 * count → proper t count 0 from ≡ Pass → Sound t
+proper-sound t count from l e = record { each = λ p. go p (decLt p count) }
+  where
+    go : (p : ℕ) → Dec (p < count) → acceptable (at t p) ≡ true
+    go p (yes h) = rw (zero-add p) at (proper-each t count 0 from e p h)
+    go p (no h) = rw (at-past t p (omega arith)) zero-accepted

@@ -1,0 +1,130 @@
+-- What the tests say when they pass, and one step of each.
+use mathlib.Core.Path.{_≡_, refl, sym, ap, _∙_}
+use mathlib.Core.Bool.{Bool, true, false, _&&_}
+use mathlib.Core.List.{List}
+use Prim.Native.Nat.{ℕ, zero, suc, _+_, _-_, _*_, _≤_, _<_}
+use native.Mathlib.Omega.{arith}
+use native.Mathlib.Nat.{mul-le-mul}
+use borrow.Author.Tests.{le-leb, lt-leb, leb-true, eq-eqb, ne-eqb, eqb-true}
+use lib.Dec.{leb, eqb}
+use lib.IntN.{ℤ}
+use Rattle.outcome.specs.declared.Outcome.{Outcome}
+use Rattle.outcome.specs.declared.Outcome.the-variants as outcome
+use Rattle.interval.specs.Interval.{acceptable}
+use Rattle.interval.proofs.Range.{and-both}
+use Rattle.inputs.specs.declared.Test.{Test}
+use Rattle.inputs.specs.declared.Test.the-variants.{Pass, Fail}
+use Rattle.inputs.specs.Place.{at}
+use Rattle.inputs.specs.Tests.{both, need, sized, long, slices, sizes, proper}
+
+never : {A : Type 0} (o : Outcome) → Fail o ≡ Pass → A
+never o e = let z : _≡_ {A = ℕ} 0 1 = cc in absurd (omega arith)
+
+pub both-pass : (s t : Test) → both s t ≡ Pass → (s ≡ Pass) × (t ≡ Pass)
+unfolding both
+both-pass Pass t e = (refl, e)
+both-pass (Fail o) t e = never o e
+
+need-pass : (b : Bool) (o : Outcome) → need b o ≡ Pass → b ≡ true
+unfolding need
+need-pass true o e = refl
+need-pass false o e = never o e
+
+-- ---- test 1
+module _ (n : ℕ) where
+  pub sized-yes : 1 ≤ n → n ≤ 32 → Pass ≡ sized n
+  unfolding sized need
+  sized-yes h k = rw (le-leb 1 n h, le-leb n 32 k)
+
+  pub sized-low : n < 1 → Fail outcome.Size ≡ sized n
+  unfolding sized need
+  sized-low h = rw (lt-leb 1 n h)
+
+  pub sized-high : 1 ≤ n → 32 < n → Fail outcome.Size ≡ sized n
+  unfolding sized need
+  sized-high h k = rw (le-leb 1 n h, lt-leb n 32 k)
+
+  pub sized-pass : sized n ≡ Pass → (1 ≤ n) × (n ≤ 32)
+  unfolding sized
+  sized-pass e =
+      let b = and-both (leb 1 n) (leb n 32) (need-pass _ outcome.Size e) in
+      (leb-true 1 n (b .0), leb-true n 32 (b .1))
+
+-- ---- test 2
+pub square : (n : ℕ) → n ≤ 32 → n * n ≤ 1024
+square n h = mul-le-mul {n₁ = n} {m₁ = n} {n₂ = 32} {m₂ = 32} h h
+
+module _ (n m r b : ℕ) where
+  pub long-matrix : (m ≡ 2 * (n * n) → ⊥) → Fail (outcome.Length 1) ≡ long (slices n m r b)
+  unfolding long need both
+  long-matrix h = rw (ne-eqb m (2 * (n * n)) h)
+
+  pub long-right : m ≡ 2 * (n * n) → (r ≡ 2 * n → ⊥) → Fail (outcome.Length 2) ≡ long (slices n m r b)
+  unfolding long need both
+  long-right e h = rw (eq-eqb m (2 * (n * n)) e, ne-eqb r (2 * n) h)
+
+  pub long-box : m ≡ 2 * (n * n) → r ≡ 2 * n → (b ≡ 2 * n → ⊥) → Fail (outcome.Length 3) ≡ long (slices n m r b)
+  unfolding long need both
+  long-box e f h = rw (eq-eqb m (2 * (n * n)) e, eq-eqb r (2 * n) f, ne-eqb b (2 * n) h)
+
+  pub long-yes : m ≡ 2 * (n * n) → r ≡ 2 * n → b ≡ 2 * n → Pass ≡ long (slices n m r b)
+  unfolding long need both
+  long-yes e f g = rw (eq-eqb m (2 * (n * n)) e, eq-eqb r (2 * n) f, eq-eqb b (2 * n) g)
+
+  -- tests 1 and 2 in sequence
+  pub sizes-go : sized n ≡ Pass → long (slices n m r b) ≡ sizes n m r b
+  unfolding sizes both
+  sizes-go e = rw e
+
+  pub sizes-stop : (o : Outcome) → sized n ≡ Fail o → Fail o ≡ sizes n m r b
+  unfolding sizes both
+  sizes-stop o e = rw e
+
+-- what tests 1 and 2 say
+pub record Fitting (n m r b : ℕ) : Type 0 where
+  pub some : 1 ≤ n
+  pub few : n ≤ 32
+  pub matrix : m ≡ 2 * (n * n)
+  pub right : r ≡ 2 * n
+  pub box : b ≡ 2 * n
+
+pub sizes-pass : (n m r b : ℕ) → sizes n m r b ≡ Pass → Fitting n m r b
+unfolding sizes long
+sizes-pass n m r b e =
+    let f = both-pass (sized n) _ e in
+    let g = both-pass _ _ (f .1) in
+    let h = both-pass _ _ (g .1) in
+    let k = both-pass _ _ (h .1) in
+    let s = sized-pass n (f .0) in
+    record {
+      some = s .0;
+      few = s .1;
+      matrix = eqb-true _ _ (need-pass _ (outcome.Length 1) (g .0));
+      right = eqb-true _ _ (need-pass _ (outcome.Length 2) (h .0));
+      box = eqb-true _ _ (need-pass _ (outcome.Length 3) (k .0));
+    }
+
+-- ---- test 3, one step of its loop; the intervals left are count − p
+module _ (t : List ℤ) (count p from : ℕ) where
+  pub proper-end : count ≤ p → proper t (count - p) p from ≡ Pass
+  unfolding proper
+  proper-end h = let e : count - p ≡ 0 = omega arith in rw e
+
+  pub proper-go : p < count → acceptable (at t p) ≡ true → proper t (count - p) p from ≡ proper t (count - (p + 1)) (p + 1) from
+  unfolding proper need both
+  proper-go h e = let f : count - p ≡ suc (count - (p + 1)) = omega arith in rw (f, e)
+
+  pub proper-out : p < count → acceptable (at t p) ≡ false → proper t (count - p) p from ≡ Fail (outcome.Ends (from + p))
+  unfolding proper need both
+  proper-out h e = let f : count - p ≡ suc (count - (p + 1)) = omega arith in rw (f, e)
+
+-- each of the intervals tested is one
+pub proper-each : (t : List ℤ) (d p from : ℕ) → proper t d p from ≡ Pass → (k : ℕ) → k < d → acceptable (at t (p + k)) ≡ true
+unfolding proper
+proper-each t zero p from e k h = absurd (omega arith)
+proper-each t (suc d) p from e zero h =
+    let f : p + 0 ≡ p = omega arith in
+    rw f (need-pass _ (outcome.Ends (from + p)) (both-pass _ (proper t d (p + 1) from) e .0))
+proper-each t (suc d) p from e (suc k) h =
+    let f : p + suc k ≡ p + 1 + k = omega arith in
+    rw f (proper-each t d (p + 1) from (both-pass _ (proper t d (p + 1) from) e .1) k (omega arith))

@@ -1,0 +1,86 @@
+use crate::Test;
+use interval::Interval;
+use interval::internal::is_acceptable;
+use outcome::Outcome;
+ghost use mathlib.Core.Path.{_≡_};
+ghost use Prim.Native.Nat.{_+_, _*_, _≤_, _<_};
+ghost use lib.ListN.{length};
+ghost use Rattle.inputs.specs.Place.{at, put};
+ghost use Rattle.inputs.specs.Tests.{sized, long, slices, sizes, proper};
+
+// The interval at position p.
+pub fn read(s: &[i64], p: usize) -> Interval
+    requires { ⌜ 2 * p + 1 < length (now s) ⌝ }
+    ensures { λ r. ⌜ r ≡ at (now (s .entry)) p ⌝ }
+{
+    let q = 2 * p;
+    let lo = s[q];
+    let hi = s[q + 1];
+    Interval { lo, hi }
+}
+
+// v becomes the interval at position p.
+pub fn write(s: &mut [i64], p: usize, v: Interval)
+    requires { ⌜ 2 * p + 1 < length (now s) ⌝ }
+    ensures { λ _. ⌜ now (s .exit) ≡ put (now (s .entry)) p v ⌝ }
+{
+    let q = 2 * p;
+    let lo = v.lo;
+    let hi = v.hi;
+    s[q] = lo;
+    s[q + 1] = hi;
+}
+
+// Test 1, of n.
+fn size(n: usize) -> Test
+    ensures { λ r. ⌜ r ≡ sized n ⌝ }
+{
+    if 1 <= n {
+        if n <= 32 {
+            return Test::Pass;
+        }
+    }
+    Test::Fail(Outcome::Size)
+}
+
+// Test 2, of the lengths of matrix, right side and box.
+fn lengths(n: usize, matrix: usize, right: usize, bounds: usize) -> Test
+    requires { ⌜ n ≤ 32 ⌝ }
+    ensures { λ r. ⌜ r ≡ long (slices n matrix right bounds) ⌝ }
+{
+    if matrix != 2 * (n * n) {
+        return Test::Fail(Outcome::Length(1));
+    }
+    if right != 2 * n {
+        return Test::Fail(Outcome::Length(2));
+    }
+    if bounds != 2 * n {
+        return Test::Fail(Outcome::Length(3));
+    }
+    Test::Pass
+}
+
+// Tests 1 and 2.
+pub fn size_and_lengths(n: usize, matrix: usize, right: usize, bounds: usize) -> Test
+    ensures { λ r. ⌜ r ≡ sizes n matrix right bounds ⌝ }
+{
+    let s = size(n);
+    if let Test::Pass = s {
+        return lengths(n, matrix, right, bounds);
+    }
+    s
+}
+
+// Test 3, of the intervals of one slice, whose first position is from.
+pub fn intervals(s: &[i64], count: usize, from: usize) -> Test
+    requires { ⌜ (2 * count ≤ length (now s)) × (from + count < 65536) ⌝ }
+    ensures { λ r. ⌜ r ≡ proper (now (s .entry)) count 0 from ⌝ }
+{
+    for p in 0..count {
+        let v = read(s, p);
+        if !is_acceptable(v) {
+            return Test::Fail(Outcome::Ends(from + p));
+        }
+    }
+    Test::Pass
+}

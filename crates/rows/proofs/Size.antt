@@ -1,0 +1,82 @@
+-- How large a sum of rounded products can be: each is at most 4·10¹² units.
+use mathlib.Core.Path.{_≡_, subst}
+use mathlib.Core.Bool.{true}
+use Prim.Native.Nat.{ℕ, _+_, _*_, _≤_}
+use native.Mathlib.Omega.{arith}
+use lib.Dec.{le→leb}
+use lib.IntN.{ℤ, pos, negsuc, negℤ, _+ℤ_, _*ℤ_}
+use lib.Signed.{_≤ℤ_, leZ-yes}
+use mir.Syntax.{w64}
+use mir.Val.{SFits}
+use Rattle.integer.proofs.Linear.{linear, over}
+use Rattle.integer.proofs.Order.{also, prod, trans}
+use Rattle.integer.proofs.Rounding.{floor-iff, ceil-iff}
+use Rattle.integer.proofs.Machine.{fits64}
+use Rattle.interval.specs.declared.Interval.{Interval}
+use Rattle.interval.specs.Interval.{scale, lowest, highest, acceptable, exactSum, productAt, product, zero}
+use Rattle.interval.specs.Size.{Representable}
+use Rattle.interval.proofs.Range.{Within, Sound, is-sound, scale-above}
+use Rattle.interval.proofs.Corners.{least-ind, greatest-ind}
+use Rattle.fraction.specs.Fraction.{millionths}
+use Rattle.fraction.proofs.Hull.{hull-order}
+use Rattle.fraction.proofs.Product.{product-hull}
+
+-- ends in sequence, neither further from 0 than k
+pub record Small (k : ℕ) (v : Interval) : Type 0 where
+  pub low : negℤ (pos k) ≤ℤ v .lo
+  pub order : v .lo ≤ℤ v .hi
+  pub high : v .hi ≤ℤ pos k
+
+pub zero-small : Small 0 zero
+zero-small = record { low = leZ-yes tt; order = leZ-yes tt; high = leZ-yes tt }
+
+pub sum-small : {k l : ℕ} {v w : Interval} → Small k v → Small l w → Small (k + l) (exactSum v w)
+unfolding exactSum
+sum-small {k} {l} {v} {w} h g =
+    record {
+      low = lows (pos k) (pos l) (v .lo) (w .lo) (h .low) (g .low);
+      order = highs (v .hi) (w .hi) (v .lo) (w .lo) (h .order) (g .order);
+      high = highs (pos k) (pos l) (v .hi) (w .hi) (h .high) (g .high);
+    }
+  where
+    lows : (k l a b : ℤ) → negℤ k ≤ℤ a → negℤ l ≤ℤ b → negℤ (k +ℤ l) ≤ℤ (a +ℤ b)
+    lows = over 4 _ (λ ρ. simp linear (omega arith))
+
+    highs : (k l a b : ℤ) → a ≤ℤ k → b ≤ℤ l → (a +ℤ b) ≤ℤ (k +ℤ l)
+    highs = over 4 _ (λ ρ. simp linear (omega arith))
+
+pub small-fits : {k : ℕ} {v : Interval} → k ≤ 1000000000000000000 → Small k v → Representable v
+small-fits {k} {v} b h =
+    let m : pos k ≤ℤ pos 1000000000000000000 = record { le = le→leb k 1000000000000000000 b } in
+    record { lo-fits = fit (pos k) (v .lo) m (h .low) (trans (h .order) (h .high)); hi-fits = fit (pos k) (v .hi) m (trans (h .low) (h .order)) (h .high) }
+  where
+    fit : (k z : ℤ) → k ≤ℤ pos 1000000000000000000 → negℤ k ≤ℤ z → z ≤ℤ k → SFits w64 z
+    fit = over 2 _ (λ ρ. simp (fits64, linear, ρ) (omega arith))
+
+-- ---- a product
+above : {a b : ℤ} → Within a → Within b → (negℤ (pos 4000000000000) *ℤ scale) ≤ℤ (a *ℤ b)
+unfolding lowest highest scale
+above {a} {b} h k = go a b (h .low) (h .high) (k .low) (k .high)
+  where
+    go : (a b : ℤ) → negsuc 1999999999 ≤ℤ a → a ≤ℤ pos 2000000000 → negsuc 1999999999 ≤ℤ b → b ≤ℤ pos 2000000000 → (negℤ (pos 4000000000000) *ℤ pos 1000000) ≤ℤ (a *ℤ b)
+    go = over 2 _ (λ ρ h₁ h₂ k₁ k₂. also (prod h₁ k₁) (also (prod h₁ k₂) (also (prod h₂ k₁) (also (prod h₂ k₂) (simp (linear, ρ) (omega arith))))))
+
+below : {a b : ℤ} → Within a → Within b → (a *ℤ b) ≤ℤ (pos 4000000000000 *ℤ scale)
+unfolding lowest highest scale
+below {a} {b} h k = go a b (h .low) (h .high) (k .low) (k .high)
+  where
+    go : (a b : ℤ) → negsuc 1999999999 ≤ℤ a → a ≤ℤ pos 2000000000 → negsuc 1999999999 ≤ℤ b → b ≤ℤ pos 2000000000 → (a *ℤ b) ≤ℤ (pos 4000000000000 *ℤ pos 1000000)
+    go = over 2 _ (λ ρ h₁ h₂ k₁ k₂. also (prod h₁ k₁) (also (prod h₁ k₂) (also (prod h₂ k₁) (also (prod h₂ k₂) (simp (linear, ρ) (omega arith))))))
+
+pub product-small : (x y : Interval) → acceptable x ≡ true → acceptable y ≡ true → Small 4000000000000 (product x y)
+unfolding productAt
+product-small x y e f =
+    let h = is-sound x e in
+    let k = is-sound y f in
+    record {
+      low = floor-iff _ scale (negℤ (pos 4000000000000)) scale-above .1
+          (least-ind _ _ _ _ (λ z. (negℤ (pos 4000000000000) *ℤ scale) ≤ℤ z) (above (h .lo-in) (k .lo-in)) (above (h .lo-in) (k .hi-in)) (above (h .hi-in) (k .lo-in)) (above (h .hi-in) (k .hi-in)));
+      order = hull-order (product-hull millionths x y) (h .order) (k .order);
+      high = ceil-iff _ scale (pos 4000000000000) scale-above .1
+          (greatest-ind _ _ _ _ (λ z. z ≤ℤ (pos 4000000000000 *ℤ scale)) (below (h .lo-in) (k .lo-in)) (below (h .lo-in) (k .hi-in)) (below (h .hi-in) (k .lo-in)) (below (h .hi-in) (k .hi-in)));
+    }
