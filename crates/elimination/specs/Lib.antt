@@ -1,0 +1,5 @@
+pub mod Run
+pub mod Forward
+pub mod Back
+pub mod Unit
+pub mod Call
