@@ -3,3 +3,4 @@ pub mod Forward
 pub mod Back
 pub mod Unit
 pub mod Call
+pub mod Code

@@ -2,14 +2,14 @@
 use mathlib.Core.Path.{_≡_, refl, sym, ap, ap₂, _∙_}
 use mathlib.Core.Bool.{true}
 use mathlib.Core.Logic.{_≢_}
-use mathlib.Core.List.{List}
-use Prim.Native.Nat.{ℕ, _+_, _*_, _≤_, _<_}
+use mathlib.Core.List.{List, _++_}
+use Prim.Native.Nat.{ℕ, _+_, _-_, _*_, _≤_, _<_}
 use native.Mathlib.Omega.{arith}
 use native.Mathlib.Nat.{zero-add}
 use native.Mathlib.Decide.{decLt, ℕ-discrete}
 use lib.IntN.{ℤ, pos}
-use lib.ListN.{getD, set, length, length-set, List·getD-eq-default}
-use lib.Seq.{getD-set-same, getD-set-other}
+use lib.ListN.{getD, set, length, length-set, List·getD-eq-default, List·getD-append}
+use lib.Seq.{getD-set-same, getD-set-other, getD-append-add}
 use Rattle.interval.specs.declared.Interval.{Interval}
 use Rattle.interval.specs.Interval.{zero, acceptable, lowest, highest, within, inRange}
 use Rattle.interval.proofs.Range.{same-ends}
@@ -59,3 +59,27 @@ proper-sound t count from l e = record { each = λ p. go p (decLt p count) }
     go : (p : ℕ) → Dec (p < count) → acceptable (at t p) ≡ true
     go p (yes h) = rw (zero-add p) at (proper-each t count 0 from e p h)
     go p (no h) = rw (at-past t p (omega arith)) zero-accepted
+
+-- ---- lists one after the other
+at-left : (s t : List ℤ) (p : ℕ) → 2 * p + 1 < length s → at (s ++ t) p ≡ at s p
+unfolding at
+at-left s t p h = same-ends _ _ (List·getD-append s t (pos 0) (2 * p) (omega arith)) (List·getD-append s t (pos 0) (2 * p + 1) h)
+
+at-right : (s t : List ℤ) (a q : ℕ) → length s ≡ 2 * a → at (s ++ t) (a + q) ≡ at t q
+unfolding at
+at-right s t a q h =
+    let e : 2 * (a + q) ≡ length s + 2 * q = omega arith in
+    let f : 2 * (a + q) + 1 ≡ length s + (2 * q + 1) = omega arith in
+    same-ends _ _ (rw e (getD-append-add s t (2 * q) (pos 0))) (rw f (getD-append-add s t (2 * q + 1) (pos 0)))
+
+pub sound-append : (s t : List ℤ) (a : ℕ) → length s ≡ 2 * a → Sound s → Sound t → Sound (s ++ t)
+sound-append s t a l h k = record { each = λ p. go p (decLt p a) }
+  where
+    go : (p : ℕ) → Dec (p < a) → acceptable (at (s ++ t) p) ≡ true
+    go p (yes f) = rw (at-left s t p (omega arith)) (h .each p)
+    go p (no f) = let e : p ≡ a + (p - a) = omega (arith, f) in rw e (rw (at-right s t a (p - a) l) (k .each (p - a)))
+
+-- nothing but noughts
+pub sound-noughts : (t : List ℤ) → ((i : ℕ) → getD t i (pos 0) ≡ pos 0) → Sound t
+unfolding at
+sound-noughts t h = record { each = λ p. rw (h (2 * p), h (2 * p + 1)) zero-accepted }

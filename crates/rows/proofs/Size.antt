@@ -4,7 +4,7 @@ use mathlib.Core.Bool.{true}
 use Prim.Native.Nat.{ℕ, _+_, _*_, _≤_}
 use native.Mathlib.Omega.{arith}
 use lib.Dec.{le→leb}
-use lib.IntN.{ℤ, pos, negsuc, negℤ, _+ℤ_, _*ℤ_}
+use lib.IntN.{ℤ, pos, negsuc, negℤ, _+ℤ_, _-ℤ_, _*ℤ_}
 use lib.Signed.{_≤ℤ_, leZ-yes}
 use mir.Syntax.{w64}
 use mir.Val.{SFits}
@@ -13,7 +13,7 @@ use Rattle.integer.proofs.Order.{also, prod, trans}
 use Rattle.integer.proofs.Rounding.{floor-iff, ceil-iff}
 use Rattle.integer.proofs.Machine.{fits64}
 use Rattle.interval.specs.declared.Interval.{Interval}
-use Rattle.interval.specs.Interval.{scale, lowest, highest, acceptable, exactSum, productAt, product, zero}
+use Rattle.interval.specs.Interval.{scale, lowest, highest, acceptable, exactSum, exactDifference, productAt, product, zero}
 use Rattle.interval.specs.Size.{Representable}
 use Rattle.interval.proofs.Range.{Within, Sound, is-sound, scale-above}
 use Rattle.interval.proofs.Corners.{least-ind, greatest-ind}
@@ -44,6 +44,29 @@ sum-small {k} {l} {v} {w} h g =
 
     highs : (k l a b : ℤ) → a ≤ℤ k → b ≤ℤ l → (a +ℤ b) ≤ℤ (k +ℤ l)
     highs = over 4 _ (λ ρ. simp linear (omega arith))
+
+pub difference-small : {k l : ℕ} {v w : Interval} → Small k v → Small l w → Small (k + l) (exactDifference v w)
+unfolding exactDifference
+difference-small {k} {l} {v} {w} h g =
+    record {
+      low = lows (pos k) (pos l) (v .lo) (w .hi) (h .low) (g .high);
+      order = orders (v .lo) (v .hi) (w .lo) (w .hi) (h .order) (g .order);
+      high = highs (pos k) (pos l) (v .hi) (w .lo) (h .high) (g .low);
+    }
+  where
+    lows : (k l a b : ℤ) → negℤ k ≤ℤ a → b ≤ℤ l → negℤ (k +ℤ l) ≤ℤ (a -ℤ b)
+    lows = over 4 _ (λ ρ. simp linear (omega arith))
+
+    orders : (a b c d : ℤ) → a ≤ℤ b → c ≤ℤ d → (a -ℤ d) ≤ℤ (b -ℤ c)
+    orders = over 4 _ (λ ρ. simp linear (omega arith))
+
+    highs : (k l a b : ℤ) → a ≤ℤ k → negℤ l ≤ℤ b → (a -ℤ b) ≤ℤ (k +ℤ l)
+    highs = over 4 _ (λ ρ. simp linear (omega arith))
+
+-- what is acceptable is in the range
+pub acceptable-small : (v : Interval) → acceptable v ≡ true → Small 2000000000 v
+unfolding lowest highest
+acceptable-small v e = let h = is-sound v e in record { low = h .lo-in .low; order = h .order; high = h .hi-in .high }
 
 pub small-fits : {k : ℕ} {v : Interval} → k ≤ 1000000000000000000 → Small k v → Representable v
 small-fits {k} {v} b h =

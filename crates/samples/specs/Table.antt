@@ -66,7 +66,7 @@ half = point (pos 500000)
 abbrev arrow : System
 arrow =
     system 3
-    ( ends (pos 1000000) (pos 2000000) ∷ whole 0 ∷ whole 2
+    (ends (pos 1000000) (pos 2000000) ∷ whole 0 ∷ whole 2
     ∷ whole 0 ∷ whole 2 ∷ whole 3
     ∷ ends (pos 0) (pos 1000000) ∷ whole 1 ∷ ends (negℤ (pos 4000000)) (pos 1000000) ∷ [])
     (whole 0 ∷ whole 0 ∷ whole 0 ∷ [])
@@ -74,7 +74,7 @@ arrow =
 abbrev tridiagonal : System
 tridiagonal =
     system 3
-    ( ends (pos 1000000) (pos 2000000) ∷ whole 2 ∷ whole 0
+    (ends (pos 1000000) (pos 2000000) ∷ whole 2 ∷ whole 0
     ∷ ends (pos 0) (pos 1000000) ∷ ends (negℤ (pos 4000000)) (pos 1000000) ∷ whole 1
     ∷ whole 0 ∷ whole 3 ∷ whole 2 ∷ [])
     (whole 0 ∷ whole 0 ∷ whole 0 ∷ [])

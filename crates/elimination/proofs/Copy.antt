@@ -1,0 +1,25 @@
+-- One turn of the loops that copy numbers, and the end of one.
+use mathlib.Core.Path.{_≡_, sym, ap, ap₂, _∙_}
+use mathlib.Core.List.{List, append-nil}
+use Prim.Native.Nat.{ℕ, _+_, _≤_, _<_}
+use native.Mathlib.Omega.{arith}
+use native.Mathlib.Nat.{zero-add, le-refl}
+use native.Mathlib.Numerals.{add-one}
+use lib.IntN.{ℤ, pos}
+use lib.ListN.{getD, set, length, take, drop, length-drop, drop-of-length-le}
+use lib.Seq.{paste, paste-suc, getD-drop}
+
+-- t has the first j numbers of s from at on, and the next is stored
+pub paste-more : (d : List ℤ) (at : ℕ) (s : List ℤ) (j : ℕ) {t : List ℤ} {v : ℤ} → t ≡ paste d at s j → v ≡ getD s j (pos 0) → at + j < length d → j < length s → set t (at + j) v ≡ paste d at s (j + 1)
+paste-more d at s j e f h k =
+    ap₂ (λ l u. set l (at + j) u) e f ∙ paste-suc d at s j (pos 0) h k ∙ ap (paste d at s) (sym (add-one j))
+
+-- the same of a copy to the front of x, of what stands in s from a place on
+pub out-more : (x s : List ℤ) (from j : ℕ) {y : List ℤ} {v : ℤ} → from + length x ≤ length s → y ≡ paste x 0 (drop from s) j → v ≡ getD s (from + j) (pos 0) → j < length x → set y j v ≡ paste x 0 (drop from s) (j + 1)
+out-more x s from j h e f k =
+    rw (zero-add j) at
+    (paste-more x 0 (drop from s) j e (f ∙ sym (getD-drop from s j (pos 0))) (omega arith) (rw (length-drop from s) (omega arith)))
+
+-- then all of x is from s
+pub out-end : (x s : List ℤ) (j : ℕ) {y : List ℤ} → y ≡ paste x 0 s j → j ≡ length x → y ≡ take (length x) s
+out-end x s j e f = e ∙ rw (f, zero-add (length x), drop-of-length-le x (le-refl (length x))) (append-nil (take (length x) s))

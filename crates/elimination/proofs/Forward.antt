@@ -1,0 +1,120 @@
+-- One turn of each of the loops over k, i and j; what is left of a loop that runs to n is n − its index.
+use mathlib.Core.Path.{_≡_, refl, sym, ap, _∙_}
+use mathlib.Core.Bool.{Bool, true, false, not, cond}
+use mathlib.Core.List.{List}
+use Prim.Native.Nat.{ℕ, _+_, _-_, _≤_, _<_}
+use native.Mathlib.Omega.{arith}
+use native.Mathlib.Nat.{sub-zero}
+use borrow.Author.Tests.{not-true, not-false}
+use lib.IntN.{ℤ}
+use Rattle.outcome.specs.declared.Outcome.{Outcome}
+use Rattle.outcome.specs.declared.Outcome.the-variants as outcome
+use Rattle.interval.specs.declared.Interval.{Interval}
+use Rattle.interval.specs.Interval.{acceptable, containsZero, inRange, quotient}
+use Rattle.inputs.specs.Place.{at, put}
+use Rattle.elimination.specs.declared.Usable.{Usable}
+use Rattle.elimination.specs.declared.Usable.the-variants.{Yes, No}
+use Rattle.elimination.specs.Run.{Run, stop, done, andThen, inRangeThen, cell, rhs}
+use Rattle.elimination.specs.Forward.{pivoted, reduced, columns, rightSide, rows, pivots, forward}
+use Rattle.elimination.specs.Code.{Placed, usable, Kept}
+use Rattle.elimination.proofs.Value.{quotient-accepted}
+use Rattle.elimination.proofs.Step.{turn}
+
+-- ---- an interval that is usable, and none
+usable-yes : (b : Bool) (v w : Interval) → usable b v ≡ Yes w → (b ≡ true) × (w ≡ v)
+usable-yes true v w e = (refl, cc)
+usable-yes false v w e = let z : _≡_ {A = ℕ} 0 1 = cc in absurd (omega arith)
+
+usable-no : (b : Bool) (v : Interval) → usable b v ≡ No → b ≡ false
+usable-no true v e = let z : _≡_ {A = ℕ} 0 1 = cc in absurd (omega arith)
+usable-no false v e = refl
+
+-- ---- the columns
+module _ (n k i : ℕ) (m : Interval) (j : ℕ) (t : List ℤ) where
+  pub columns-end : n ≤ j → columns n k i m (n - j) j t ≡ done t
+  unfolding columns
+  columns-end h = let e : n - j ≡ 0 = omega arith in rw e
+
+  module _ {r : Bool} {t′ : List ℤ} (h : j < n) (p : Placed (reduced t (cell n i j) m (cell n k j)) (cell n i j) t r t′) where
+    pub columns-go : r ≡ true → columns n k i m (n - j) j t ≡ columns n k i m (n - (j + 1)) (j + 1) t′
+    unfolding columns inRangeThen
+    columns-go e = rw (turn n j h, p .list, sym (p .flag) ∙ e)
+
+    pub columns-out : r ≡ false → columns n k i m (n - j) j t ≡ stop (outcome.OutOfRange (i + 1))
+    unfolding columns inRangeThen
+    columns-out e = rw (turn n j h, sym (p .flag) ∙ e)
+
+-- ---- the rows
+module _ (n k : ℕ) (p : Interval) (i : ℕ) (t : List ℤ) where
+  pub rows-end : n ≤ i → rows n k p (n - i) i t ≡ done t
+  unfolding rows
+  rows-end h = let e : n - i ≡ 0 = omega arith in rw e
+
+  module _ {u : Usable} {t₁ : List ℤ} (h : i < n) (q : Kept (quotient (at t (cell n i k)) p) (cell n i k) t u t₁) where
+    pub rows-no : u ≡ No → rows n k p (n - i) i t ≡ stop (outcome.OutOfRange (i + 1))
+    unfolding rows inRangeThen
+    rows-no e = let v = quotient (at t (cell n i k)) p in rw (turn n i h, usable-no (inRange v) v (sym (q .answer) ∙ e))
+
+    module _ {m : Interval} (e : u ≡ Yes m) where
+      -- the factor is the quotient, in the range, and the list has it
+      factored : (inRange (quotient (at t (cell n i k)) p) ≡ true) × (m ≡ quotient (at t (cell n i k)) p)
+      factored = let v = quotient (at t (cell n i k)) p in usable-yes (inRange v) v m (sym (q .answer) ∙ e)
+
+      stored : t₁ ≡ put t (cell n i k) (quotient (at t (cell n i k)) p)
+      stored = q .list ∙ rw (factored .0)
+
+      pub rows-stop : {o : Outcome} → columns n k i m (n - (k + 1)) (k + 1) t₁ ≡ stop o → rows n k p (n - i) i t ≡ stop o
+      unfolding rows inRangeThen andThen
+      rows-stop f = rw (turn n i h, factored .0, rw (factored .1, stored) at f)
+
+      module _ {t₂ t₃ : List ℤ} {r : Bool} (f : columns n k i m (n - (k + 1)) (k + 1) t₁ ≡ done t₂) (g : Placed (reduced t₂ (rhs n i) m (rhs n k)) (rhs n i) t₂ r t₃) where
+        pub rows-out : r ≡ false → rows n k p (n - i) i t ≡ stop (outcome.OutOfRange (i + 1))
+        unfolding rows inRangeThen andThen rightSide
+        rows-out b = rw (turn n i h, factored .0, rw (factored .1, stored) at f, rw (factored .1) at (sym (g .flag) ∙ b))
+
+        pub rows-go : r ≡ true → rows n k p (n - i) i t ≡ rows n k p (n - (i + 1)) (i + 1) t₃
+        unfolding rows inRangeThen andThen rightSide
+        rows-go b =
+            let r′ = sym (g .flag) ∙ b in
+            let l : t₃ ≡ put t₂ (rhs n i) (reduced t₂ (rhs n i) m (rhs n k)) = g .list ∙ rw r′ in
+            rw (turn n i h, factored .0, rw (factored .1, stored) at f, rw (factored .1) at r′) (ap (λ l. rows n k p (n - (i + 1)) (i + 1) l) (sym (rw (factored .1) at l)))
+
+-- the factor that a row goes on with is an interval
+pub factor-accepted : (n k i : ℕ) (p : Interval) (t t₁ : List ℤ) (u : Usable) (m : Interval) → Kept (quotient (at t (cell n i k)) p) (cell n i k) t u t₁ → u ≡ Yes m
+    → acceptable (at t (cell n i k)) ≡ true → acceptable p ≡ true → containsZero p ≡ false → acceptable m ≡ true
+factor-accepted n k i p t t₁ u m q e a b z =
+    let v = quotient (at t (cell n i k)) p in
+    let f = usable-yes (inRange v) v m (sym (q .answer) ∙ e) in
+    rw (f .1) (quotient-accepted _ p a b z (f .0))
+
+-- ---- the pivots
+module _ (n k : ℕ) (t : List ℤ) where
+  pub pivots-end : n ≤ k → pivots n (n - k) k t ≡ done t
+  unfolding pivots
+  pivots-end h = let e : n - k ≡ 0 = omega arith in rw e
+
+  module _ {u : Usable} (h : k < n) (q : u ≡ usable (not (containsZero (at t (cell n k k)))) (at t (cell n k k))) where
+    pub pivots-no : u ≡ No → pivots n (n - k) k t ≡ stop (outcome.ContainsZero (k + 1))
+    unfolding pivots pivoted andThen
+    pivots-no e = let v = at t (cell n k k) in rw (turn n k h, not-false (containsZero v) (usable-no (not (containsZero v)) v (sym q ∙ e)))
+
+    module _ {p : Interval} (e : u ≡ Yes p) where
+      -- the pivot as it was read, and that it does not contain 0
+      pub pivot-read : p ≡ at t (cell n k k)
+      pivot-read = let v = at t (cell n k k) in usable-yes (not (containsZero v)) v p (sym q ∙ e) .1
+
+      pub pivot-apart : containsZero (at t (cell n k k)) ≡ false
+      pivot-apart = let v = at t (cell n k k) in not-true (containsZero v) (usable-yes (not (containsZero v)) v p (sym q ∙ e) .0)
+
+      pub pivots-stop : {o : Outcome} → rows n k p (n - (k + 1)) (k + 1) t ≡ stop o → pivots n (n - k) k t ≡ stop o
+      unfolding pivots pivoted andThen
+      pivots-stop f = rw (turn n k h, pivot-apart, rw pivot-read at f)
+
+      pub pivots-go : {t′ : List ℤ} → rows n k p (n - (k + 1)) (k + 1) t ≡ done t′ → pivots n (n - k) k t ≡ pivots n (n - (k + 1)) (k + 1) t′
+      unfolding pivots pivoted andThen
+      pivots-go f = rw (turn n k h, pivot-apart, rw pivot-read at f)
+
+-- the whole forward part, from the loop over the pivots
+pub forward-from : (n : ℕ) (t : List ℤ) (r : Run) → pivots n (n - 0) 0 t ≡ r → forward n t ≡ r
+unfolding forward
+forward-from n t r e = ap (λ (d : ℕ). pivots n d 0 t) (sym (sub-zero n)) ∙ e

@@ -1,0 +1,10 @@
+pub mod Index
+pub mod Value
+pub mod Run
+pub mod Kept
+pub mod Step
+pub mod Copy
+pub mod Unit
+pub mod Forward
+pub mod Back
+pub mod Call

@@ -1,0 +1,7 @@
+// The calculation, after the tests.
+pub mod back;
+pub mod copy;
+pub mod forward;
+pub mod solve;
+pub mod step;
+pub mod unit;

@@ -1,0 +1,50 @@
+use crate::Ending;
+use crate::internal::step::place;
+use inputs::internal::read;
+use interval::internal::difference;
+use interval::internal::in_range;
+use interval::internal::quotient;
+use outcome::Outcome;
+use rows::internal::row_sum;
+ghost use mathlib.Core.Path.{_≡_};
+ghost use mathlib.Core.Bool.{false};
+ghost use Prim.Native.Nat.{_<_};
+ghost use Rattle.interval.specs.Interval.{containsZero};
+ghost use Rattle.inputs.specs.Place.{at};
+ghost use Rattle.rows.specs.Sum.{singly};
+ghost use Rattle.elimination.specs.Run.{cell};
+ghost use Rattle.elimination.specs.Back.{back};
+ghost use Rattle.elimination.specs.Code.{Working, Pivots, Solved, Ran};
+
+// x(i), in the place of f(i), if its numerator and it are in the range.
+fn unknown(n: usize, i: usize, t: &mut [i64]) -> bool
+    requires { ⌜ Working n (now t) × (i < n) × (containsZero (at (now t) (cell n i i)) ≡ false) ⌝ }
+    ensures { λ r. ⌜ Solved n i (now (t .entry)) r (now (t .exit)) ⌝ }
+{
+    let p = n * n + i;
+    let c = i * n + i;
+    let s = row_sum(&*t, c + 1, &*t, p + 1, n - (i + 1));
+    let f = read(t, p);
+    let v = difference(f, s);
+    if in_range(v) {
+        let a = read(t, c);
+        let w = quotient(v, a);
+        return place(t, p, w);
+    }
+    false
+}
+
+// Back-substitution.
+pub fn back(n: usize, t: &mut [i64]) -> Ending
+    requires { ⌜ Working n (now t) × Pivots n (now t) ⌝ }
+    ensures { λ r. ⌜ Ran (back singly n n (now (t .entry))) r (now (t .exit)) ⌝ }
+{
+    let mut i = n;
+    while 0 < i {
+        i -= 1;
+        if !unknown(n, i, t) {
+            return Ending::Stopped(Outcome::OutOfRange(i + 1));
+        }
+    }
+    Ending::Finished
+}

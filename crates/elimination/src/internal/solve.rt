@@ -1,0 +1,61 @@
+use crate::Ending;
+use crate::internal::back::back;
+use crate::internal::copy::copy_out;
+use crate::internal::copy::fill;
+use crate::internal::forward::forward;
+use crate::internal::unit::unit_rows;
+use outcome::Outcome;
+ghost use mathlib.Core.Path.{_≡_};
+ghost use mathlib.Core.List.{List};
+ghost use Prim.Native.Nat.{ℕ, _*_};
+ghost use lib.ListN.{length};
+ghost use Rattle.inputs.specs.declared.Test.the-variants.{Pass};
+ghost use Rattle.inputs.specs.Tests.{System};
+ghost use Rattle.rows.specs.Sum.{singly};
+ghost use Rattle.elimination.specs.Run.{andThen};
+ghost use Rattle.elimination.specs.Unit.{unitRows};
+ghost use Rattle.elimination.specs.Call.{copied, solved, tests, system};
+ghost use Rattle.elimination.specs.Code.{Working, Ended};
+
+// Eliminates in the working copy and writes the box at the end.
+fn finish(n: usize, t: &mut [i64], bounds: &mut [i64]) -> Outcome
+    requires { ⌜ Working n (now t) × (length (now bounds) ≡ 2 * n) ⌝ }
+    ensures { λ r. ⌜ Ended (solved singly n (now (t .entry))) r (now (bounds .entry)) (now (bounds .exit)) ⌝ }
+{
+    let e = forward(n, t);
+    if let Ending::Stopped(o) = e {
+        return o;
+    }
+    let e = back(n, t);
+    if let Ending::Stopped(o) = e {
+        return o;
+    }
+    copy_out(bounds, t, 2 * (n * n));
+    Outcome::Done
+}
+
+// The calculation over A and f.
+pub fn solve(n: usize, a: &[i64], f: &[i64], bounds: &mut [i64]) -> Outcome
+    requires { ⌜ tests (system n (now a) (now f)) (length (now bounds)) ≡ Pass ⌝ }
+    ensures { λ r. ⌜ Ended (solved singly n (copied (system n (now (a .entry)) (now (f .entry))))) r (now (bounds .entry)) (now (bounds .exit)) ⌝ }
+{
+    let mut t = [0i64; 2112];
+    fill(&mut t, a, 0);
+    fill(&mut t, f, 2 * (n * n));
+    finish(n, &mut t, bounds)
+}
+
+// The calculation over B and b.
+pub fn solve_balance(n: usize, b_matrix: &[i64], b: &[i64], bounds: &mut [i64]) -> Outcome
+    requires { ⌜ tests (system n (now «b_matrix») (now b)) (length (now bounds)) ≡ Pass ⌝ }
+    ensures { λ r. ⌜ Ended (andThen (unitRows n n 0 (copied (system n (now («b_matrix» .entry)) (now (b .entry))))) (λ t. solved singly n t)) r (now (bounds .entry)) (now (bounds .exit)) ⌝ }
+{
+    let mut t = [0i64; 2112];
+    fill(&mut t, b_matrix, 0);
+    fill(&mut t, b, 2 * (n * n));
+    let e = unit_rows(n, &mut t);
+    if let Ending::Stopped(o) = e {
+        return o;
+    }
+    finish(n, &mut t, bounds)
+}
