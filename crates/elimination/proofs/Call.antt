@@ -1,13 +1,13 @@
 -- The tests of a call, its working copy, and the whole calculation from its parts.
-use mathlib.Core.Path.{_≡_, refl, sym, ap, ap₂, _∙_}
-use mathlib.Core.List.{List, [], _∷_, _++_, append-assoc}
+use mathlib.Core.Path.{_≡_, refl, ap, _∙_}
+use mathlib.Core.List.{List}
 use Prim.Native.Nat.{ℕ, _+_, _*_, _≤_, _<_}
 use native.Mathlib.Omega.{arith}
-use native.Mathlib.Nat.{zero-add, le-refl}
+use native.Mathlib.Nat.{zero-add}
 use native.Mathlib.Decide.{decLt}
 use lib.IntN.{ℤ, pos}
 use lib.ListN.{length, take, drop, replicate, getD, length-append, length-drop, length-replicate, getD-replicate, List·getD-eq-default}
-use lib.Seq.{paste, length-paste, take-length, take-append-seam, drop-append-add, drop-drop, getD-drop}
+use lib.Seq.{getD-drop}
 use Rattle.outcome.specs.Table.{paper}
 use Rattle.outcome.specs.declared.Outcome.{Outcome}
 use Rattle.outcome.specs.declared.Outcome.the-variants as outcome
@@ -69,12 +69,12 @@ noughts i = go (decLt i 2112)
     go (no h) = List·getD-eq-default (replicate 2112 (pos 0)) (pos 0) {n = i} (rw (length-replicate 2112 (pos 0)) (omega (arith, h)))
 
 module _ (n : ℕ) (a f : List ℤ) (l : ℕ) (r : Ready n a f l) where
-  pub copied-fits : (length a + length f ≤ 2112) × (2 * (n * n) ≤ 2048)
-  copied-fits = (omega (arith, r .fitting .few, r .fitting .matrix, r .fitting .right, square-small n (r .fitting .few)), omega (arith, square-small n (r .fitting .few)))
+  pub copied-fits : length a + length f ≤ 2112
+  copied-fits = omega (arith, r .fitting .few, r .fitting .matrix, r .fitting .right, square-small n (r .fitting .few))
 
   copied-length : length (copied (system n a f)) ≡ 2112
   unfolding copied
-  copied-length = simp (length-append, length-drop, length-replicate) (omega (arith, copied-fits .0))
+  copied-length = simp (length-append, length-drop, length-replicate) (omega (arith, copied-fits))
 
   pub copied-working : Working n (copied (system n a f))
   unfolding copied
@@ -86,19 +86,6 @@ module _ (n : ℕ) (a f : List ℤ) (l : ℕ) (r : Ready n a f l) where
             (sound-append f _ n (r .fitting .right) (r .right)
             (sound-noughts _ (λ i. getD-drop (length a + length f) (replicate 2112 (pos 0)) i (pos 0) ∙ noughts (length a + length f + i))));
       }
-
-  -- both slices filled in
-  pub filled : (t₁ t₂ : List ℤ) → t₁ ≡ paste (replicate 2112 (pos 0)) 0 a (length a) → t₂ ≡ paste t₁ (2 * (n * n)) f (length f) → t₂ ≡ copied (system n a f)
-  unfolding copied
-  filled t₁ t₂ e g =
-      let z = replicate 2112 (pos 0) in
-      let w = drop (length a) z in
-      let p : t₁ ≡ a ++ w = e ∙ (λ i. take-length a i ++ drop (zero-add (length a) i) z) in
-      g ∙ ap₂ (λ l k. paste l k f (length f)) p (sym (r .fitting .matrix)) ∙ (λ i. (take-append-seam a w i ++ take-length f i) ++ (drop-append-add a w (length f) ∙ drop-drop (length f) (length a) z) i) ∙ append-assoc a f (drop (length a + length f) z)
-
-  pub filled-length : (t₁ : List ℤ) → t₁ ≡ paste (replicate 2112 (pos 0)) 0 a (length a) → length t₁ ≡ 2112
-  filled-length t₁ e =
-      ap length e ∙ length-paste (replicate 2112 (pos 0)) 0 a (length a) (rw (length-replicate 2112 (pos 0)) (omega (arith, copied-fits .0))) (le-refl (length a)) ∙ length-replicate 2112 (pos 0)
 
 -- ---- the calculation from its parts
 module _ (n : ℕ) (t x : List ℤ) where

@@ -1,13 +1,13 @@
 -- One turn of the loops that copy numbers, and the end of one.
 use mathlib.Core.Path.{_≡_, sym, ap, ap₂, _∙_}
-use mathlib.Core.List.{List, append-nil}
+use mathlib.Core.List.{List, _++_, append-nil, append-assoc}
 use Prim.Native.Nat.{ℕ, _+_, _≤_, _<_}
 use native.Mathlib.Omega.{arith}
 use native.Mathlib.Nat.{zero-add, le-refl}
 use native.Mathlib.Numerals.{add-one}
 use lib.IntN.{ℤ, pos}
 use lib.ListN.{getD, set, length, take, drop, length-drop, drop-of-length-le}
-use lib.Seq.{paste, paste-suc, getD-drop}
+use lib.Seq.{paste, paste-suc, getD-drop, take-length, take-append-seam, drop-append-add, drop-drop}
 
 -- t has the first j numbers of s from at on, and the next is stored
 pub paste-more : (d : List ℤ) (at : ℕ) (s : List ℤ) (j : ℕ) {t : List ℤ} {v : ℤ} → t ≡ paste d at s j → v ≡ getD s j (pos 0) → at + j < length d → j < length s → set t (at + j) v ≡ paste d at s (j + 1)
@@ -23,3 +23,10 @@ out-more x s from j h e f k =
 -- then all of x is from s
 pub out-end : (x s : List ℤ) (j : ℕ) {y : List ℤ} → y ≡ paste x 0 s j → j ≡ length x → y ≡ take (length x) s
 out-end x s j e f = e ∙ rw (f, zero-add (length x), drop-of-length-le x (le-refl (length x))) (append-nil (take (length x) s))
+
+-- two lists pasted one after the other
+pub pasted-both : (z a f t₁ t₂ : List ℤ) → t₁ ≡ paste z 0 a (length a) → t₂ ≡ paste t₁ (length a) f (length f) → t₂ ≡ a ++ (f ++ drop (length a + length f) z)
+pasted-both z a f t₁ t₂ e g =
+    let w = drop (length a) z in
+    let p : t₁ ≡ a ++ w = e ∙ (λ i. take-length a i ++ drop (zero-add (length a) i) z) in
+    g ∙ ap (λ l. paste l (length a) f (length f)) p ∙ (λ i. (take-append-seam a w i ++ take-length f i) ++ (drop-append-add a w (length f) ∙ drop-drop (length f) (length a) z) i) ∙ append-assoc a f (drop (length a + length f) z)

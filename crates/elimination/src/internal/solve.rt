@@ -1,7 +1,7 @@
 use crate::Ending;
 use crate::internal::back::back;
+use crate::internal::copy::copy_in;
 use crate::internal::copy::copy_out;
-use crate::internal::copy::fill;
 use crate::internal::forward::forward;
 use crate::internal::unit::unit_rows;
 use outcome::Outcome;
@@ -40,8 +40,7 @@ pub fn solve(n: usize, a: &[i64], f: &[i64], bounds: &mut [i64]) -> Outcome
     ensures { λ r. ⌜ Ended (solved singly n (copied (system n (now (a .entry)) (now (f .entry))))) r (now (bounds .entry)) (now (bounds .exit)) ⌝ }
 {
     let mut t = [0i64; 2112];
-    fill(&mut t, a, 0);
-    fill(&mut t, f, 2 * (n * n));
+    copy_in(&mut t, a, f);
     finish(n, &mut t, bounds)
 }
 
@@ -51,8 +50,7 @@ pub fn solve_balance(n: usize, b_matrix: &[i64], b: &[i64], bounds: &mut [i64]) 
     ensures { λ r. ⌜ Ended (andThen (unitRows n n 0 (copied (system n (now («b_matrix» .entry)) (now (b .entry))))) (λ t. solved singly n t)) r (now (bounds .entry)) (now (bounds .exit)) ⌝ }
 {
     let mut t = [0i64; 2112];
-    fill(&mut t, b_matrix, 0);
-    fill(&mut t, b, 2 * (n * n));
+    copy_in(&mut t, b_matrix, b);
     let e = unit_rows(n, &mut t);
     if let Ending::Stopped(o) = e {
         return o;
