@@ -61,11 +61,11 @@ proper-sound t count from l e = record { each = λ p. go p (decLt p count) }
     go p (no h) = rw (at-past t p (omega arith)) zero-accepted
 
 -- ---- lists one after the other
-at-left : (s t : List ℤ) (p : ℕ) → 2 * p + 1 < length s → at (s ++ t) p ≡ at s p
+pub at-left : (s t : List ℤ) (p : ℕ) → 2 * p + 1 < length s → at (s ++ t) p ≡ at s p
 unfolding at
 at-left s t p h = same-ends _ _ (List·getD-append s t (pos 0) (2 * p) (omega arith)) (List·getD-append s t (pos 0) (2 * p + 1) h)
 
-at-right : (s t : List ℤ) (a q : ℕ) → length s ≡ 2 * a → at (s ++ t) (a + q) ≡ at t q
+pub at-right : (s t : List ℤ) (a q : ℕ) → length s ≡ 2 * a → at (s ++ t) (a + q) ≡ at t q
 unfolding at
 at-right s t a q h =
     let e : 2 * (a + q) ≡ length s + 2 * q = omega arith in

@@ -1,7 +1,7 @@
 -- Document 01, Bounds in units: the interval, its constants, and the arithmetic on it with outward rounding.
 use mathlib.Core.Bool.{Bool, _&&_}
 use lib.IntN.{ℤ, pos, negsuc, negℤ, _+ℤ_, _-ℤ_, _*ℤ_}
-use lib.Signed.{leZ}
+use lib.Signed.{leZ, ltZ}
 use Rattle.integer.specs.Rounding.{floorDiv, ceilDiv}
 use Rattle.integer.specs.Extremes.{minimum, maximum}
 use Rattle.interval.specs.declared.Interval.{Interval}
@@ -87,3 +87,7 @@ negated v = record { lo = negℤ (v .hi); hi = negℤ (v .lo) }
 
 unfoldable pub intersection : Interval → Interval → Interval
 intersection x y = record { lo = maximum (x .lo) (y .lo); hi = minimum (x .hi) (y .hi) }
+
+-- an intersection that holds nothing
+unfoldable pub isEmpty : Interval → Bool
+isEmpty v = ltZ (v .hi) (v .lo)

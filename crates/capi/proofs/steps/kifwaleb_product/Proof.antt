@@ -2,8 +2,8 @@ use mathlib.Core.Path.{ap₂, _∙_}
 use borrow.Author.Needs.{needs}
 use Rattle.interval.specs.Answer.{productAnswer}
 use Rattle.capi.proofs.Ends.{read-ends}
-use Rattle.capi.proofs.kifwaleb_product.Statement.{statement}
-use Rattle.capi.proofs.kifwaleb_product.Tie as tie
+use Rattle.capi.proofs.steps.kifwaleb_product.Statement.{statement}
+use Rattle.capi.proofs.steps.kifwaleb_product.Tie as tie
 
 product-requires : tie.Need-product-requires
 product-requires c κs = search needs

@@ -2,8 +2,8 @@ use mathlib.Core.Path.{ap₂, _∙_}
 use borrow.Author.Needs.{needs}
 use Rattle.interval.specs.Answer.{sumAnswer}
 use Rattle.capi.proofs.Ends.{read-ends}
-use Rattle.capi.proofs.kifwaleb_sum.Statement.{statement}
-use Rattle.capi.proofs.kifwaleb_sum.Tie as tie
+use Rattle.capi.proofs.steps.kifwaleb_sum.Statement.{statement}
+use Rattle.capi.proofs.steps.kifwaleb_sum.Tie as tie
 
 sum-requires : tie.Need-sum-requires
 sum-requires c κs = search needs

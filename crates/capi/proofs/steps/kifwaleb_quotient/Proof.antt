@@ -2,8 +2,8 @@ use mathlib.Core.Path.{ap₂, _∙_}
 use borrow.Author.Needs.{needs}
 use Rattle.interval.specs.Answer.{quotientAnswer}
 use Rattle.capi.proofs.Ends.{read-ends}
-use Rattle.capi.proofs.kifwaleb_quotient.Statement.{statement}
-use Rattle.capi.proofs.kifwaleb_quotient.Tie as tie
+use Rattle.capi.proofs.steps.kifwaleb_quotient.Statement.{statement}
+use Rattle.capi.proofs.steps.kifwaleb_quotient.Tie as tie
 
 quotient-requires : tie.Need-quotient-requires
 quotient-requires c κs = search needs

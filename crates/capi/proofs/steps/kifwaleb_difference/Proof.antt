@@ -2,8 +2,8 @@ use mathlib.Core.Path.{ap₂, _∙_}
 use borrow.Author.Needs.{needs}
 use Rattle.interval.specs.Answer.{differenceAnswer}
 use Rattle.capi.proofs.Ends.{read-ends}
-use Rattle.capi.proofs.kifwaleb_difference.Statement.{statement}
-use Rattle.capi.proofs.kifwaleb_difference.Tie as tie
+use Rattle.capi.proofs.steps.kifwaleb_difference.Statement.{statement}
+use Rattle.capi.proofs.steps.kifwaleb_difference.Tie as tie
 
 difference-requires : tie.Need-difference-requires
 difference-requires c κs = search needs

@@ -1,8 +1,8 @@
 use mathlib.Core.Path.{sym, ap, _∙_}
 use borrow.Author.Needs.{needs}
 use Rattle.interval.specs.Answer.{paper}
-use Rattle.capi.proofs.flat.Statement.{statement}
-use Rattle.capi.proofs.flat.Tie as tie
+use Rattle.capi.proofs.steps.flat.Statement.{statement}
+use Rattle.capi.proofs.steps.flat.Tie as tie
 
 enum-known-s : tie.Need-enum-known-s
 enum-known-s c = search needs

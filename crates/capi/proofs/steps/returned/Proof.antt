@@ -2,8 +2,8 @@ use mir.Syntax.{w64}
 use mir.Val.{SFits}
 use mir.ValLaws.{toZ-ofZ}
 use borrow.Author.Needs.{needs}
-use Rattle.capi.proofs.returned.Statement.{statement}
-use Rattle.capi.proofs.returned.Tie as tie
+use Rattle.capi.proofs.steps.returned.Statement.{statement}
+use Rattle.capi.proofs.steps.returned.Tie as tie
 
 number-requires : tie.Need-number-requires
 number-requires c κs = search needs

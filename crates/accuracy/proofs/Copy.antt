@@ -1,0 +1,66 @@
+-- What stands where: in the working copy, in the box that is written, in the balance of a system that holds A and f.
+use mathlib.Core.Path.{_≡_, refl, ap, _∙_}
+use mathlib.Core.List.{List, _∷_, _++_}
+use Prim.Native.Nat.{ℕ, zero, suc, _+_, _*_, _/_, _%_, _<_}
+use native.Mathlib.Omega.{arith}
+use native.Mathlib.Nat.{zero-add, mul-add-div-right, div-eq-of-lt, mul-add-mod-self-right, mod-eq-of-lt}
+use lib.IntN.{ℤ, pos}
+use lib.ListN.{length, getD, take, drop}
+use lib.Seq.{getD-take, getD-drop}
+use Rattle.interval.specs.declared.Interval.{Interval}
+use Rattle.interval.specs.Interval.{ends, exactDifference}
+use Rattle.interval.proofs.Range.{same-ends}
+use Rattle.inputs.specs.Place.{at}
+use Rattle.inputs.specs.Tests.{System}
+use Rattle.inputs.proofs.Place.{at-left, at-right}
+use Rattle.elimination.specs.Run.{cell, rhs}
+use Rattle.elimination.specs.Unit.{unit}
+use Rattle.elimination.specs.Call.{copied, box}
+use Rattle.elimination.proofs.Index.{cell-before}
+use Rattle.accuracy.specs.Solution.{numbers, balanceOf}
+
+-- ---- the working copy: the matrix, then the right side
+module _ (s : System) (h : length (s .matrix) ≡ 2 * (s .size * s .size)) where
+  pub copied-cell : (i j : ℕ) → i < s .size → j < s .size → at (copied s) (cell (s .size) i j) ≡ at (s .matrix) (cell (s .size) i j)
+  unfolding copied
+  copied-cell i j a b = at-left (s .matrix) _ (cell (s .size) i j) (omega (arith, cell-before (s .size) i j a b))
+
+  pub copied-right : length (s .right) ≡ 2 * s .size → (i : ℕ) → i < s .size → at (copied s) (rhs (s .size) i) ≡ at (s .right) i
+  unfolding copied
+  copied-right k i a = at-right (s .matrix) _ (s .size * s .size) i h ∙ at-left (s .right) _ i (omega arith)
+
+-- ---- the box: the right side at the end
+pub box-at : (n : ℕ) (t : List ℤ) (j : ℕ) → j < n → at (box n t) j ≡ at t (rhs n j)
+unfolding box at
+box-at n t j h = same-ends _ _ (go (2 * j) (2 * rhs n j) (omega arith) (omega arith)) (go (2 * j + 1) (2 * rhs n j + 1) (omega arith) (omega arith))
+  where
+    go : (p q : ℕ) → p < 2 * n → 2 * (n * n) + p ≡ q → getD (take (2 * n) (drop (2 * (n * n)) t)) p (pos 0) ≡ getD t q (pos 0)
+    go p q a e = getD-take (2 * n) (drop (2 * (n * n)) t) p (pos 0) a ∙ getD-drop (2 * (n * n)) t p (pos 0) ∙ ap (λ z. getD t z (pos 0)) e
+
+-- ---- the balance
+at-first : (a b : ℤ) (t : List ℤ) → at (a ∷ b ∷ t) 0 ≡ ends a b
+unfolding at
+at-first a b t = refl
+
+at-later : (a b : ℤ) (t : List ℤ) (p : ℕ) → at (a ∷ b ∷ t) (suc p) ≡ at t p
+unfolding at
+at-later a b t p =
+    let e : 2 * suc p ≡ suc (suc (2 * p)) = omega arith in
+    let f : 2 * suc p + 1 ≡ suc (suc (2 * p + 1)) = omega arith in
+    rw (f, e)
+
+numbers-at : (f : ℕ → Interval) (d p k : ℕ) → k < d → at (numbers f d p) k ≡ f (p + k)
+unfolding numbers
+numbers-at f zero p k h = absurd (omega arith)
+numbers-at f (suc d) p zero h = let e : p + 0 ≡ p = omega arith in rw e (at-first _ _ _)
+numbers-at f (suc d) p (suc k) h = let e : p + suc k ≡ p + 1 + k = omega arith in rw e (at-later _ _ _ k ∙ numbers-at f d (p + 1) k (omega arith))
+
+module _ (s : System) (i j : ℕ) (a : i < s .size) (b : j < s .size) where
+  pub balance-cell : at (balanceOf s .matrix) (cell (s .size) i j) ≡ exactDifference (unit i j) (at (s .matrix) (cell (s .size) i j))
+  unfolding balanceOf
+  balance-cell =
+      let n = s .size in
+      let z : 0 < n = omega arith in
+      let row : cell n i j / n ≡ i = mul-add-div-right z i j ∙ rw (div-eq-of-lt b) (omega arith) in
+      let column : cell n i j % n ≡ j = mul-add-mod-self-right i n j ∙ mod-eq-of-lt b in
+      numbers-at _ (n * n) 0 (cell n i j) (cell-before n i j a b) ∙ rw (zero-add (cell n i j), row, column)

@@ -1,0 +1,99 @@
+-- Elimination encloses every exact solution.
+use mathlib.Core.Path.{_≡_, refl, sym, ap, _∙_}
+use mathlib.Core.Logic.{inr}
+use mathlib.Core.List.{List}
+use Prim.Native.Nat.{ℕ, _+_, _*_, _≤_, _<_}
+use native.Mathlib.Omega.{arith}
+use lib.IntN.{ℤ, pos}
+use lib.ListN.{length}
+use lib.Signed.{_<ℤ_}
+use Rattle.interval.specs.Interval.{exactDifference}
+use Rattle.fraction.specs.Fraction.{Fraction, Inside}
+use Rattle.fraction.proofs.Inside.{inside-same}
+use Rattle.inputs.specs.declared.Test.{Test}
+use Rattle.inputs.specs.declared.Test.the-variants.{Pass, Fail}
+use Rattle.inputs.specs.Place.{at}
+use Rattle.inputs.specs.Tests.{System}
+use Rattle.rows.specs.Sum.{RowSum, singly}
+use Rattle.rows.specs.Exact.{Encloses}
+use Rattle.rows.proofs.Enclosed.{singly-encloses}
+use Rattle.elimination.specs.Run.{Run, done, cell, rhs}
+use Rattle.elimination.specs.Unit.{unit}
+use Rattle.elimination.specs.Call.{copied, solved, tests, tested, overA, overB}
+use Rattle.elimination.proofs.Run.{never, done-same, joined}
+use Rattle.elimination.proofs.Kept.{forward-pivots}
+use Rattle.elimination.proofs.Call.{ready, copied-working}
+use Rattle.accuracy.specs.Solution.{Solution, InBox, balanceOf}
+use Rattle.accuracy.proofs.Common.{ratio, common}
+use Rattle.accuracy.proofs.Row.{Row, Holds, Met, square-above}
+use Rattle.accuracy.proofs.Steps.{after, met-after}
+use Rattle.accuracy.proofs.Forward.{forward-holds}
+use Rattle.accuracy.proofs.Back.{back-holds}
+use Rattle.accuracy.proofs.Unit.{unit-twice, rows-formed}
+use Rattle.accuracy.proofs.Balance.{rowOf, row-holds, balance-met}
+use Rattle.accuracy.proofs.Copy.{copied-cell, copied-right, box-at, balance-cell}
+
+-- ---- weights that meet exact rows inside a list lie inside the box that is found from it
+pub solved-inside : (sum : RowSum) → Encloses sum → (n : ℕ) (t X : List ℤ) → 2 * (n * n + n) ≤ length t → solved sum n t ≡ done X →
+    (R : ℕ → Row) → ((l : ℕ) → l < n → Holds n t l 0 (R l)) →
+    (w : ℕ → ℤ) (q : ℤ) (above : pos 0 <ℤ q) → ((l : ℕ) → l < n → Met n 0 (R l) w q) →
+    (j : ℕ) → j < n → Inside (at X j) (ratio (w j) q above)
+unfolding solved
+solved-inside sum encloses n t X room e R H w q above M j h =
+    let a = joined _ _ X e in
+    let b = joined _ _ X (a .rest) in
+    let f = forward-holds n R t (a .mid) room H (a .first) in
+    let P = forward-pivots n t (a .mid) (a .first) in
+    let m = met-after n R w q (λ k l. square-above (P .each k l) (f .holds k l .cells k (omega arith) l)) .0 M in
+    rw (← (done-same (b .rest)), box-at n (b .mid) j h)
+    (back-holds sum encloses n w q above (after R n) m (a .mid) (b .mid) (omega (arith, f .as-long)) P (f .holds) (b .first) j h)
+
+-- ---- a solution of the balance that a list holds as I − B and b
+module _ (sum : RowSum) (encloses : Encloses sum) (s : System) (t X : List ℤ) (room : 2 * (s .size * s .size + s .size) ≤ length t) (run : solved sum (s .size) t ≡ done X)
+    (cells : (i j : ℕ) → i < s .size → j < s .size → at t (cell (s .size) i j) ≡ exactDifference (unit i j) (at (s .matrix) (cell (s .size) i j)))
+    (right : (i : ℕ) → i < s .size → at t (rhs (s .size) i) ≡ at (s .right) i) where
+  pub solution-inside : (x : ℕ → Fraction) → Solution s x → InBox (s .size) X x
+  solution-inside x sol =
+      let c = sol .choice in
+      let w = common (s .size) x in
+      record {
+        each = λ j h.
+            inside-same (w .same j h)
+            (solved-inside sum encloses (s .size) t X room run
+            (λ i. rowOf (s .size) (c .share i) (c .delivery i) i)
+            (λ i l. row-holds (s .size) (c .share i) (c .delivery i) t (s .matrix) (s .right) i (λ j k. cells i j l k) (right i l) (λ j k. c .share-in i j l k) (c .delivery-in i l))
+            (w .num) (w .den) (w .above)
+            (λ i l. balance-met (s .size) (c .share i) (c .delivery i) x i l .0 (sol .meets .row i l))
+            j h);
+      }
+
+-- ---- a call that went to its end passed its tests
+tested-done : (t : Test) (r : Run) (X : List ℤ) → tested t r ≡ done X → (t ≡ Pass) × (r ≡ done X)
+unfolding tested
+tested-done Pass r X e = (refl, e)
+tested-done (Fail o) r X e = never e
+
+-- the call over A and f: the list holds A, which is I − (I − A)
+pub over-A : (s : System) (l : ℕ) (X : List ℤ) → overA s l ≡ done X → (x : ℕ → Fraction) → Solution (balanceOf s) x → InBox (s .size) X x
+unfolding overA balanceOf
+over-A s l X e =
+    let a = tested-done (tests s l) _ X e in
+    let r = ready (s .size) (s .matrix) (s .right) l (a .0) in
+    let m = r .fitting .matrix in
+    solution-inside singly singly-encloses (balanceOf s) (copied s) X (copied-working (s .size) (s .matrix) (s .right) l r .room) (a .1)
+    (λ i j h k. copied-cell s m i j h k ∙ sym (ap (exactDifference (unit i j)) (balance-cell s i j h k) ∙ unit-twice i j _))
+    (copied-right s m (r .fitting .right))
+
+-- the call over B and b: I − B is formed first
+pub over-B : (s : System) (l : ℕ) (X : List ℤ) → overB s l ≡ done X → (x : ℕ → Fraction) → Solution s x → InBox (s .size) X x
+unfolding overB
+over-B s l X e =
+    let a = tested-done (tests s l) _ X e in
+    let r = ready (s .size) (s .matrix) (s .right) l (a .0) in
+    let m = r .fitting .matrix in
+    let b = joined _ _ X (a .1) in
+    let room = copied-working (s .size) (s .matrix) (s .right) l r .room in
+    let f = rows-formed (s .size) (s .size) 0 (copied s) (b .mid) (omega arith) room (b .first) in
+    solution-inside singly singly-encloses s (b .mid) X (omega (arith, f .as-long, room)) (b .rest)
+    (λ i j h k. f .new i j (omega arith) h k ∙ ap (exactDifference (unit i j)) (copied-cell s m i j h k))
+    (λ i h. f .old (rhs (s .size) i) (inr (omega arith)) ∙ copied-right s m (r .fitting .right) i h)

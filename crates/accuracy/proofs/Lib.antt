@@ -1,0 +1,11 @@
+pub mod Common
+pub mod Row
+pub mod Steps
+pub mod Written
+pub mod Forward
+pub mod Sum
+pub mod Back
+pub mod Unit
+pub mod Balance
+pub mod Copy
+pub mod Elimination

@@ -1,0 +1,60 @@
+-- Document 01, The list in demand 3: the accuracy rule, one claim about a list of sweep calls of any length.
+use mathlib.Core.Path.{_≡_}
+use mathlib.Core.List.{List, [], _∷_}
+use Prim.Native.Nat.{ℕ, _<_}
+use lib.Dec.{T}
+use lib.IntN.{ℤ, _-ℤ_, _*ℤ_}
+use lib.Signed.{_≤ℤ_}
+use Rattle.interval.specs.declared.Interval.{Interval}
+use Rattle.fraction.specs.Fraction.{Fraction, Inside}
+use Rattle.fraction.specs.Meaning.{Contains}
+use Rattle.inputs.specs.Place.{at}
+use Rattle.inputs.specs.Tests.{System}
+use Rattle.elimination.specs.Run.{done}
+use Rattle.elimination.specs.Call.{overA, overB}
+use Rattle.sweep.specs.Calls.{Call, Change, changes, anyEmpty}
+use Rattle.accuracy.specs.Solution.{Solution, InBox, balanceOf}
+
+-- 'It begins with the box that elimination wrote, or with any box that the caller lends'; elimination accepted if it returned 0
+pub data Start (s : System) (X : List ℤ) : Type 0 where
+  lent : Start s X
+  fromB : (boxLength : ℕ) → overB s boxLength ≡ done X → Start s X
+  fromA : (a : System) (boxLength : ℕ) → s ≡ balanceOf a → overA a boxLength ≡ done X → Start s X
+
+-- the solutions that the rule speaks of: those in a box that the caller lends, and all after an elimination
+abbrev pub Meant : {s : System} {X : List ℤ} → Start s X → (ℕ → Fraction) → Type 0
+Meant {s} {X} lent x = InBox (s .size) X x
+Meant (fromB l e) x = Unit {0}
+Meant (fromA a l f e) x = Unit {0}
+
+-- a and y are apart by at most w units
+pub record OffBy (w : ℤ) (a y : Fraction) : Type 0 where
+  pub below : (y .num *ℤ a .den -ℤ a .num *ℤ y .den) ≤ℤ (w *ℤ (a .den *ℤ y .den))
+  pub above : (a .num *ℤ y .den -ℤ y .num *ℤ a .den) ≤ℤ (w *ℤ (a .den *ℤ y .den))
+
+-- 'A width is upper end less lower end'
+abbrev pub width : Interval → ℤ
+width v = v .hi -ℤ v .lo
+
+-- the weights lie in the box, and any figure inside the bounds of one is off from it by at most their width
+pub record Held (n : ℕ) (X : List ℤ) (x : ℕ → Fraction) : Type 0 where
+  pub inside : InBox n X x
+  pub close : (j : ℕ) → j < n → (y : Fraction) → Inside (at X j) y → OffBy (width (at X j)) (x j) y
+
+-- 'a bound is widened if a lower end falls or an upper end rises': none is, from X to Y
+pub record Narrowed (n : ℕ) (X Y : List ℤ) : Type 0 where
+  pub each : (j : ℕ) → j < n → Contains (at X j) (at Y j)
+
+abbrev pub Every : (Change → Type 0) → List Change → Type 0
+Every P [] = Unit {0}
+Every P (c ∷ cs) = P c × Every P cs
+
+-- the rule, for a system, a box to begin with, and any list of calls
+pub record Accuracy (s : System) (X : List ℤ) (start : Start s X) (calls : List Call) : Type 0 where
+  -- every solution lies within the bounds at the start, after every whole sweep and after every call
+  pub held-at-start : (x : ℕ → Fraction) → Solution s x → Meant start x → Held (s .size) X x
+  pub held-after : (x : ℕ → Fraction) → Solution s x → Meant start x → Every (λ c. Held (s .size) (c .after) x) (changes s calls X)
+  -- 'empty' is said only if no solution lies in the box that the list began with
+  pub empty-only : T (anyEmpty s calls X) → (x : ℕ → Fraction) → Solution s x → InBox (s .size) X x → ⊥
+  -- no sweep and no call widens a bound
+  pub never-wider : Every (λ c. Narrowed (s .size) (c .before) (c .after)) (changes s calls X)

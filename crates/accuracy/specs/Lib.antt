@@ -1,0 +1,3 @@
+pub mod Solution
+pub mod Claim
+pub mod Beside

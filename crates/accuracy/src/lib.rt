@@ -1,0 +1,1 @@
+// What the calls are worth: statements in specs/, proofs in proofs/.

@@ -1,0 +1,59 @@
+use elimination::eliminate;
+use elimination::eliminate_balance;
+use outcome::Outcome;
+ghost use mathlib.Core.Path.{_≡_};
+ghost use lib.ListN.{length};
+ghost use Rattle.outcome.specs.Table.{paper};
+ghost use Rattle.elimination.specs.Call.{system, overA, overB, outcomeOf, boxAfter};
+ghost use Rattle.capi.specs.Flat.{rowOf};
+
+// A call's answer: document 01's number and place, and the count of whole sweeps, which is 0 for an elimination.
+#[repr(C)]
+pub struct KifwalebOutcome {
+    pub number: u64,
+    pub place: u64,
+    pub count: u64,
+}
+
+fn counted(o: Outcome, count: usize) -> KifwalebOutcome
+    ensures { λ r. ⌜ (rowOf r ≡ paper o) × (r .count ≡ count) ⌝ }
+{
+    let number = o.number();
+    let place = o.place() as u64;
+    let count = count as u64;
+    KifwalebOutcome {
+        number,
+        place,
+        count,
+    }
+}
+
+#[no_mangle]
+pub extern "C" fn kifwaleb_eliminate(
+    n: usize,
+    a: &[i64],
+    f: &[i64],
+    bounds: &mut [i64],
+) -> KifwalebOutcome
+    ensures outcome { λ r. ⌜ rowOf r ≡ paper (outcomeOf (overA (system n (now (a .entry)) (now (f .entry))) (length (now (bounds .entry))))) ⌝ }
+    ensures counted { λ r. ⌜ r .count ≡ 0 ⌝ }
+    ensures written { λ r. ⌜ now (bounds .exit) ≡ boxAfter (overA (system n (now (a .entry)) (now (f .entry))) (length (now (bounds .entry)))) (now (bounds .entry)) ⌝ }
+{
+    let o = eliminate(n, a, f, bounds);
+    counted(o, 0)
+}
+
+#[no_mangle]
+pub extern "C" fn kifwaleb_eliminate_balance(
+    n: usize,
+    b_matrix: &[i64],
+    b: &[i64],
+    bounds: &mut [i64],
+) -> KifwalebOutcome
+    ensures outcome { λ r. ⌜ rowOf r ≡ paper (outcomeOf (overB (system n (now («b_matrix» .entry)) (now (b .entry))) (length (now (bounds .entry))))) ⌝ }
+    ensures counted { λ r. ⌜ r .count ≡ 0 ⌝ }
+    ensures written { λ r. ⌜ now (bounds .exit) ≡ boxAfter (overB (system n (now («b_matrix» .entry)) (now (b .entry))) (length (now (bounds .entry)))) (now (bounds .entry)) ⌝ }
+{
+    let o = eliminate_balance(n, b_matrix, b, bounds);
+    counted(o, 0)
+}

@@ -1,0 +1,1 @@
+// Sweeps that tighten a box: definitions in specs/.
