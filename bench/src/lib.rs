@@ -1,10 +1,12 @@
-//! The outside check of the interval steps: an independent implementation of
-//! document 01, the cases to try, and the comparison with the archive.
+//! The outside check: an independent implementation of document 01, the cases
+//! to try, and the comparison with the archive.
 
 #[cfg(feature = "archive")]
 pub mod archive;
+pub mod case;
 pub mod comparison;
 pub mod generator;
+pub mod plan;
 pub mod reference;
 pub mod samples;
 

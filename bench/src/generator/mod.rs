@@ -1,10 +1,10 @@
-//! The cases to try: all pairs of edge intervals, and random pairs that are
-//! steered to where a wrong step would show.
+//! The cases to try: all cases of edge values, and random cases that are
+//! steered to where a wrong answer would show.
 
-mod edges;
 mod pairs;
 mod random;
+mod systems;
 
-pub use edges::edge_pairs;
-pub use pairs::random_pairs;
+pub use pairs::{edge_pairs, random_pairs};
 pub use random::Random;
+pub use systems::{edge_cases, random_cases, random_cases_up_to};

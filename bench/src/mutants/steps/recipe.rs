@@ -1,6 +1,7 @@
 //! A copy of the four steps in which every decision can be exchanged.
 
-use crate::comparison::{compare, Answer};
+use crate::comparison::steps::{compare, Answer};
+use crate::mutants::rounding::{ceiling, floor, Rounding};
 use crate::reference::{Interval, Operation};
 use Operation::{Difference, Product, Quotient, Sum};
 
@@ -16,7 +17,6 @@ pub enum Test {
     Result,
 }
 
-pub type Rounding = fn(i128, i128) -> i128;
 pub type Ends = fn(Interval, Interval) -> (i128, i128);
 pub type Corner = fn(i128, i128) -> (i128, i128);
 pub type IntervalTest = fn(Interval) -> bool;
@@ -67,30 +67,6 @@ pub const RIGHT: Recipe = Recipe {
 
 pub fn wide(end: i64) -> i128 {
     i128::from(end)
-}
-
-pub fn cut(n: i128, d: i128) -> i128 {
-    n / d
-}
-
-pub fn floor(n: i128, d: i128) -> i128 {
-    (n * d.signum()).div_euclid(d.abs())
-}
-
-pub fn ceiling(n: i128, d: i128) -> i128 {
-    -(-n * d.signum()).div_euclid(d.abs())
-}
-
-pub fn away_from_zero(n: i128, d: i128) -> i128 {
-    if (n < 0) == (d < 0) {
-        ceiling(n, d)
-    } else {
-        floor(n, d)
-    }
-}
-
-pub fn to_nearest(n: i128, d: i128) -> i128 {
-    floor(n + d / 2, d)
 }
 
 pub fn right_refusal(test: Test, _: i128, _: i128) -> Answer {

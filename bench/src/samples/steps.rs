@@ -1,6 +1,6 @@
 //! The single-step samples of document 01, counted in units.
 
-use crate::comparison::Answer;
+use crate::comparison::steps::Answer;
 use crate::reference::{Interval, Operation};
 
 /// A step with the answer that document 01 writes down for it.
@@ -102,7 +102,7 @@ pub fn failing(step: impl Fn(Operation, Interval, Interval) -> Answer) -> Vec<(S
 #[cfg(test)]
 mod tests {
     use super::*;
-    use crate::comparison::reference_answer;
+    use crate::comparison::steps::reference_answer;
 
     #[test]
     fn the_reference_gives_every_written_answer() {
@@ -118,7 +118,7 @@ mod tests {
     #[cfg(feature = "archive")]
     #[test]
     fn the_archive_gives_every_written_answer() {
-        let failing = failing(crate::archive::step);
+        let failing = failing(crate::archive::steps::step);
         assert!(failing.is_empty(), "{failing:?}");
     }
 }

@@ -1,42 +1,33 @@
-//! Compares the archive's four single steps with the reference.
+//! The comparison of the four single steps.
 
-use kifwaleb_bench::archive;
-use kifwaleb_bench::comparison::{compare, outcome_name, Difference, Tally};
+use kifwaleb_bench::archive::steps::step;
+use kifwaleb_bench::comparison::steps::{compare, outcome_name, Difference, Tally};
 use kifwaleb_bench::generator::{edge_pairs, random_pairs};
+use kifwaleb_bench::plan::Plan;
 use kifwaleb_bench::reference::{Interval, Operation};
-use kifwaleb_bench::samples;
-use std::env;
-use std::process::ExitCode;
+use kifwaleb_bench::samples::steps::failing;
 
-const USAGE: &str = "usage: differential [random pairs per step] [seed]";
-const DEFAULT_COUNT: usize = 5_000_000;
-const DEFAULT_SEED: u64 = 1;
-
-/// What the command line asks for.
-struct Plan {
-    count: usize,
-    seed: u64,
-}
-
-fn plan() -> Option<Plan> {
-    let arguments: Vec<String> = env::args().skip(1).collect();
-    if arguments.len() > 2 {
-        return None;
+/// True if the archive does every step as the documents say.
+pub fn hold(plan: &Plan) -> bool {
+    if !samples_hold() {
+        return false;
     }
-    let count = match arguments.first() {
-        Some(text) => text.parse().ok()?,
-        None => DEFAULT_COUNT,
-    };
-    let seed = match arguments.get(1) {
-        Some(text) => text.parse().ok()?,
-        None => DEFAULT_SEED,
-    };
-    Some(Plan { count, seed })
+    match all_rows(plan) {
+        Err(difference) => {
+            println!("{difference}");
+            false
+        }
+        Ok(rows) => {
+            println!("no difference; number of pairs for each outcome:");
+            let incomplete = rows.iter().filter(|row| !reached_all(row)).count();
+            incomplete == 0
+        }
+    }
 }
 
 /// True if the archive gives every answer that document 01 writes down.
 fn samples_hold() -> bool {
-    let failing = samples::failing(archive::step);
+    let failing = failing(step);
     for (sample, given) in &failing {
         println!(
             "sample of document 01 not met in {}",
@@ -65,7 +56,7 @@ fn row(
 ) -> Result<Row, Box<Difference>> {
     // Said beforehand, so that a crash in the archive can be placed.
     println!("comparing {}, {kind} pairs", operation.name());
-    let tally = compare(operation, pairs, archive::step)?;
+    let tally = compare(operation, pairs, step)?;
     Ok(Row {
         operation,
         kind,
@@ -76,7 +67,7 @@ fn row(
 fn all_rows(plan: &Plan) -> Result<Vec<Row>, Box<Difference>> {
     let mut rows = Vec::new();
     for operation in Operation::ALL {
-        let random = random_pairs(operation, plan.seed).take(plan.count);
+        let random = random_pairs(operation, plan.seed).take(plan.pairs);
         rows.push(row(operation, "edge", edge_pairs())?);
         rows.push(row(operation, "random", random)?);
     }
@@ -93,34 +84,4 @@ fn reached_all(row: &Row) -> bool {
         println!("  never reached: {}", outcome_name(*outcome));
     }
     unreached.is_empty()
-}
-
-fn holds(plan: &Plan) -> bool {
-    if !samples_hold() {
-        return false;
-    }
-    match all_rows(plan) {
-        Err(difference) => {
-            println!("{difference}");
-            false
-        }
-        Ok(rows) => {
-            println!("no difference; number of pairs for each outcome:");
-            let incomplete = rows.iter().filter(|row| !reached_all(row)).count();
-            incomplete == 0
-        }
-    }
-}
-
-fn main() -> ExitCode {
-    let Some(plan) = plan() else {
-        eprintln!("{USAGE}");
-        return ExitCode::from(2);
-    };
-    println!("{} random pairs per step, seed {}", plan.count, plan.seed);
-    if holds(&plan) {
-        ExitCode::SUCCESS
-    } else {
-        ExitCode::FAILURE
-    }
 }

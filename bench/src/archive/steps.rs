@@ -1,6 +1,6 @@
-//! The C functions of the archive under test, with safe wrappers.
+//! The archive's four single steps.
 
-use crate::comparison::Answer;
+use crate::comparison::steps::Answer;
 use crate::reference::{Interval, Operation};
 
 /// A step's answer as it crosses the C interface; `lo` and `hi` are 0 on a

@@ -1,7 +1,8 @@
 //! Wrong tests of the result.
 
-use super::recipe::{ceiling, cut, floor, Recipe, ResultTest, Rounding, LIMIT, RIGHT, WIDE_LIMIT};
+use super::recipe::{Recipe, ResultTest, LIMIT, RIGHT, WIDE_LIMIT};
 use super::{assert_equal, assert_told_apart};
+use crate::mutants::rounding::{ceiling, cut, floor, Rounding};
 use crate::reference::Operation::{self, Difference, Product, Quotient, Sum};
 
 const RESULT_FAULTS: [(&str, ResultTest); 9] = [

@@ -2,7 +2,7 @@
 
 use super::assert_told_apart;
 use super::recipe::{right_refusal, Recipe, Refusal, Test, LIMIT, RIGHT, WIDE_LIMIT};
-use crate::comparison::Answer;
+use crate::comparison::steps::Answer;
 use crate::reference::Operation::{self, Difference, Product, Quotient, Sum};
 
 /// All ways to arrange four tests.

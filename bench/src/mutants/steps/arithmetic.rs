@@ -1,9 +1,8 @@
 //! Wrong roundings, corners, scales, sums and differences.
 
 use super::assert_told_apart;
-use super::recipe::{
-    away_from_zero, ceiling, cut, floor, to_nearest, wide, Corner, Ends, Recipe, Rounding, RIGHT,
-};
+use super::recipe::{wide, Corner, Ends, Recipe, RIGHT};
+use crate::mutants::rounding::{away_from_zero, ceiling, cut, floor, to_nearest, Rounding};
 use crate::reference::Operation::{self, Difference, Product, Quotient, Sum};
 
 const ROUNDED: &[Operation] = &[Product, Quotient];

@@ -1,4 +1,4 @@
-//! Comparing answers with the reference, and counting the outcomes reached.
+//! Comparing single steps, and counting the outcomes reached.
 
 use crate::reference::{self, Interval, Operation, Step};
 use std::fmt;
@@ -125,7 +125,7 @@ fn can_have(operation: Operation, (number, _): (u64, u64)) -> bool {
 
 /// An outcome as it is printed: the place only where it says something.
 pub fn outcome_name((number, place): (u64, u64)) -> String {
-    if number == reference::FAULTY_OPERAND {
+    if number == reference::FAULTY_ENDS {
         format!("{number} place {place}")
     } else {
         number.to_string()

@@ -1,7 +1,7 @@
 //! Random pairs of operands, steered to where a wrong step would show.
 
 use super::edges::{inside_values, outside_values};
-use super::random::Random;
+use crate::generator::Random;
 use crate::reference::{Interval, Operation, LIMIT, SCALE};
 
 /// One, counted in units.
@@ -256,7 +256,7 @@ fn inverse(value: i64, modulus: i64) -> i64 {
 #[cfg(test)]
 mod tests {
     use super::*;
-    use crate::comparison::{compare, reference_answer};
+    use crate::comparison::steps::{compare, reference_answer};
 
     fn pairs(operation: Operation) -> Pairs {
         Pairs {

@@ -1,0 +1,5 @@
+//! Comparing answers with the reference, and counting what was reached.
+
+pub mod events;
+pub mod steps;
+pub mod systems;

@@ -1,0 +1,62 @@
+//! What the command line of `differential` asks for.
+
+pub const USAGE: &str = "usage: differential [pairs=N] [systems=N] [seed=N]";
+
+#[derive(Clone, Copy, Debug, PartialEq, Eq)]
+pub struct Plan {
+    /// Random pairs for each single step.
+    pub pairs: usize,
+    /// Random systems over both elimination calls.
+    pub systems: usize,
+    pub seed: u64,
+}
+
+impl Plan {
+    const DEFAULT: Plan = Plan {
+        pairs: 5_000_000,
+        systems: 1_000_000,
+        seed: 1,
+    };
+
+    /// Nothing if an argument cannot be read.
+    pub fn read(arguments: impl Iterator<Item = String>) -> Option<Plan> {
+        let mut plan = Plan::DEFAULT;
+        for argument in arguments {
+            match argument.split_once('=')? {
+                ("pairs", number) => plan.pairs = number.parse().ok()?,
+                ("systems", number) => plan.systems = number.parse().ok()?,
+                ("seed", number) => plan.seed = number.parse().ok()?,
+                _ => return None,
+            }
+        }
+        Some(plan)
+    }
+}
+
+#[cfg(test)]
+mod tests {
+    use super::*;
+
+    fn read(arguments: &[&str]) -> Option<Plan> {
+        Plan::read(arguments.iter().map(|argument| argument.to_string()))
+    }
+
+    #[test]
+    fn arguments_come_in_any_sequence() {
+        let plan = Plan {
+            pairs: 2,
+            systems: 3,
+            seed: 4,
+        };
+        assert_eq!(read(&["pairs=2", "systems=3", "seed=4"]), Some(plan));
+        assert_eq!(read(&["seed=4", "systems=3", "pairs=2"]), Some(plan));
+        assert_eq!(read(&[]), Some(Plan::DEFAULT));
+    }
+
+    #[test]
+    fn other_arguments_are_refused() {
+        for argument in ["2", "pairs", "pairs=", "pairs=-1", "sweeps=3"] {
+            assert_eq!(read(&[argument]), None, "{argument}");
+        }
+    }
+}

@@ -1,0 +1,17 @@
+//! Document 01 a second time, written from its words alone.
+
+mod elimination;
+#[cfg(test)]
+mod enclosure;
+mod interval;
+mod numbers;
+mod outcome;
+mod steps;
+mod system;
+
+pub use elimination::{calculate, eliminate, eliminate_balance, numerator, trace, Call, Trace};
+pub use interval::{rounded_product, rounded_quotient, Interval, WideInterval, LIMIT, SCALE};
+pub use numbers::*;
+pub use outcome::{Outcome, Phase, Slice, Stop};
+pub use steps::{difference, product, quotient, step, sum, Operation, Step};
+pub use system::{intervals, laid_flat, System, MOST_EQUATIONS};

@@ -1,0 +1,14 @@
+//! The numbers that document 01 returns.
+
+/// Done; the box is written.
+pub const DONE: u64 = 0;
+/// The number of equations is 0 or above 32.
+pub const FAULTY_SIZE: u64 = 1;
+/// A slice has the wrong length.
+pub const FAULTY_LENGTH: u64 = 2;
+/// Ends out of sequence or out of the range.
+pub const FAULTY_ENDS: u64 = 3;
+/// A divisor or pivot contains 0.
+pub const ZERO_DIVISOR: u64 = 5;
+/// A result is out of the range.
+pub const RESULT_OUT_OF_RANGE: u64 = 6;

@@ -1,0 +1,136 @@
+//! What a call over a system returns, and why it stopped.
+
+use super::numbers::{
+    DONE, FAULTY_ENDS, FAULTY_LENGTH, FAULTY_SIZE, RESULT_OUT_OF_RANGE, ZERO_DIVISOR,
+};
+
+use std::fmt;
+
+/// What a call returns.
+#[derive(Clone, Copy, Debug, PartialEq, Eq)]
+pub struct Outcome {
+    pub number: u64,
+    pub place: u64,
+    pub count: u64,
+}
+
+/// The lent slices in the sequence in which their lengths are tested.
+#[derive(Clone, Copy, Debug, PartialEq, Eq, PartialOrd, Ord)]
+pub enum Slice {
+    Matrix,
+    RightSide,
+    Box,
+}
+
+/// The results of an elimination that must lie in the range.
+#[derive(Clone, Copy, Debug, PartialEq, Eq, PartialOrd, Ord)]
+pub enum Phase {
+    /// An entry of I − B.
+    Forming,
+    Factor,
+    /// A changed a(i,j).
+    Entry,
+    /// A changed f(i).
+    RightSide,
+    Numerator,
+    /// An x(i).
+    Quotient,
+}
+
+/// Why a call ended without a box. The outcome tells less: it does not name
+/// the phase of a result out of the range.
+#[derive(Clone, Copy, Debug, PartialEq, Eq)]
+pub enum Stop {
+    Size,
+    Length(Slice),
+    /// Counted in intervals from 0 through matrix and right side.
+    Ends {
+        position: usize,
+    },
+    /// Counted from 1.
+    Pivot {
+        k: usize,
+    },
+    /// The row is counted from 1.
+    OutOfRange {
+        phase: Phase,
+        row: usize,
+    },
+}
+
+impl Outcome {
+    pub const DONE: Outcome = Outcome::new(DONE, 0);
+
+    /// An elimination counts no sweeps.
+    pub const fn new(number: u64, place: u64) -> Outcome {
+        Outcome {
+            number,
+            place,
+            count: 0,
+        }
+    }
+}
+
+impl fmt::Display for Outcome {
+    fn fmt(&self, formatter: &mut fmt::Formatter) -> fmt::Result {
+        write!(
+            formatter,
+            "number {}, place {}, count {}",
+            self.number, self.place, self.count
+        )
+    }
+}
+
+impl Slice {
+    pub const ALL: [Slice; 3] = [Slice::Matrix, Slice::RightSide, Slice::Box];
+
+    pub fn name(self) -> &'static str {
+        match self {
+            Slice::Matrix => "the matrix",
+            Slice::RightSide => "the right side",
+            Slice::Box => "the box",
+        }
+    }
+
+    fn place(self) -> u64 {
+        match self {
+            Slice::Matrix => 1,
+            Slice::RightSide => 2,
+            Slice::Box => 3,
+        }
+    }
+}
+
+impl Phase {
+    pub const ALL: [Phase; 6] = [
+        Phase::Forming,
+        Phase::Factor,
+        Phase::Entry,
+        Phase::RightSide,
+        Phase::Numerator,
+        Phase::Quotient,
+    ];
+
+    pub fn name(self) -> &'static str {
+        match self {
+            Phase::Forming => "forming",
+            Phase::Factor => "factor",
+            Phase::Entry => "entry",
+            Phase::RightSide => "right side",
+            Phase::Numerator => "numerator",
+            Phase::Quotient => "quotient",
+        }
+    }
+}
+
+impl From<Stop> for Outcome {
+    fn from(stop: Stop) -> Outcome {
+        match stop {
+            Stop::Size => Outcome::new(FAULTY_SIZE, 0),
+            Stop::Length(slice) => Outcome::new(FAULTY_LENGTH, slice.place()),
+            Stop::Ends { position } => Outcome::new(FAULTY_ENDS, position as u64),
+            Stop::Pivot { k } => Outcome::new(ZERO_DIVISOR, k as u64),
+            Stop::OutOfRange { row, .. } => Outcome::new(RESULT_OUT_OF_RANGE, row as u64),
+        }
+    }
+}

@@ -1,0 +1,4 @@
+//! The samples of the documents, counted in units.
+
+pub mod steps;
+pub mod systems;
