@@ -15,7 +15,8 @@ use Rattle.inputs.specs.Place.{at, put}
 use Rattle.inputs.proofs.Place.{length-put, at-put-same, at-put-other}
 use Rattle.elimination.specs.Run.{done, cell, rhs}
 use Rattle.elimination.specs.Forward.{reduced, columns, rightSide, rows, pivots, forward}
-use Rattle.elimination.proofs.Index.{rows-apart, cell-before}
+use Rattle.inputs.proofs.Tests.{rows-apart}
+use Rattle.elimination.proofs.Index.{cell-before}
 use Rattle.elimination.proofs.Run.{done-same, joined, ranged, stepped}
 use Rattle.accuracy.proofs.Written.{Written, written-none, written-more}
 use Rattle.accuracy.proofs.Row.{Row, Holds, reduce, square-above, factor-inside, reduced-inside}

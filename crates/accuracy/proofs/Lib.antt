@@ -9,3 +9,9 @@ pub mod Unit
 pub mod Balance
 pub mod Copy
 pub mod Elimination
+pub mod Follows
+pub mod Sweep
+pub mod Calls
+pub mod Rule
+pub mod Example
+pub mod Widths

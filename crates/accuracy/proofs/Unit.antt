@@ -22,7 +22,7 @@ use Rattle.inputs.specs.Place.{at, put}
 use Rattle.inputs.proofs.Place.{length-put, at-put-other}
 use Rattle.elimination.specs.Run.{done, cell}
 use Rattle.elimination.specs.Unit.{unit, unitRow, unitRows}
-use Rattle.elimination.proofs.Index.{rows-apart}
+use Rattle.inputs.proofs.Tests.{rows-apart}
 use Rattle.elimination.proofs.Run.{done-same, joined, ranged}
 use Rattle.accuracy.proofs.Common.{ratio}
 use Rattle.accuracy.proofs.Row.{dot}

@@ -4,7 +4,8 @@ use outcome::Outcome;
 ghost use mathlib.Core.Path.{_≡_};
 ghost use lib.ListN.{length};
 ghost use Rattle.outcome.specs.Table.{paper};
-ghost use Rattle.elimination.specs.Call.{system, overA, overB, outcomeOf, boxAfter};
+ghost use Rattle.inputs.specs.Tests.{system};
+ghost use Rattle.elimination.specs.Call.{overA, overB, outcomeOf, boxAfter};
 ghost use Rattle.capi.specs.Flat.{rowOf};
 
 // A call's answer: document 01's number and place, and the count of whole sweeps, which is 0 for an elimination.

@@ -14,23 +14,17 @@ use Rattle.outcome.specs.declared.Outcome.the-variants as outcome
 use Rattle.inputs.specs.declared.Test.{Test}
 use Rattle.inputs.specs.declared.Test.the-variants.{Pass, Fail}
 use Rattle.inputs.specs.Place.{Sound}
-use Rattle.inputs.specs.Tests.{both, sizes, proper, allProper}
-use Rattle.inputs.proofs.Tests.{both-pass, Fitting, sizes-pass}
+use Rattle.inputs.specs.Tests.{system, both, sizes, proper, allProper}
+use Rattle.inputs.proofs.Tests.{both-pass, both-last, square, Fitting, sizes-pass}
 use Rattle.inputs.proofs.Place.{proper-sound, sound-append, sound-noughts}
 use Rattle.rows.specs.Sum.{singly}
 use Rattle.elimination.specs.Run.{Run, stop, done, andThen}
 use Rattle.elimination.specs.Forward.{forward}
 use Rattle.elimination.specs.Back.{back}
-use Rattle.elimination.specs.Call.{copied, box, solved, system, tests, tested, outcomeOf, boxAfter}
+use Rattle.elimination.specs.Call.{copied, box, solved, tests, tested, outcomeOf, boxAfter}
 use Rattle.elimination.specs.Code.{Working, Ended}
-use Rattle.elimination.proofs.Index.{square-small}
 
 -- ---- the tests, one after the other
-both-last : (t : Test) → t ≡ both t Pass
-unfolding both
-both-last Pass = refl
-both-last (Fail o) = refl
-
 module _ (n : ℕ) (a f : List ℤ) (l : ℕ) where
   pub tests-sizes : {o : Outcome} → sizes n (length a) (length f) l ≡ Fail o → Fail o ≡ tests (system n a f) l
   unfolding tests both
@@ -70,7 +64,7 @@ noughts i = go (decLt i 2112)
 
 module _ (n : ℕ) (a f : List ℤ) (l : ℕ) (r : Ready n a f l) where
   pub copied-fits : length a + length f ≤ 2112
-  copied-fits = omega (arith, r .fitting .few, r .fitting .matrix, r .fitting .right, square-small n (r .fitting .few))
+  copied-fits = omega (arith, r .fitting .few, r .fitting .matrix, r .fitting .right, square n (r .fitting .few))
 
   copied-length : length (copied (system n a f)) ≡ 2112
   unfolding copied
@@ -81,7 +75,7 @@ module _ (n : ℕ) (a f : List ℤ) (l : ℕ) (r : Ready n a f l) where
   copied-working =
       record {
         few = r .fitting .few;
-        room = omega (arith, copied-length, r .fitting .few, square-small n (r .fitting .few));
+        room = omega (arith, copied-length, r .fitting .few, square n (r .fitting .few));
         sound = sound-append a _ (n * n) (r .fitting .matrix) (r .matrix)
             (sound-append f _ n (r .fitting .right) (r .right)
             (sound-noughts _ (λ i. getD-drop (length a + length f) (replicate 2112 (pos 0)) i (pos 0) ∙ noughts (length a + length f + i))));

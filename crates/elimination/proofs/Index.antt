@@ -3,26 +3,18 @@ use mathlib.Core.Path.{_≡_}
 use mathlib.Core.List.{List}
 use Prim.Native.Nat.{ℕ, _+_, _*_, _≤_, _<_}
 use native.Mathlib.Omega.{arith}
-use native.Mathlib.Nat.{mul-le-mul, add-mul, one-mul}
+use native.Mathlib.Nat.{mul-le-mul}
 use lib.IntN.{ℤ}
 use lib.ListN.{length}
+use Rattle.inputs.proofs.Tests.{rows-apart}
 use Rattle.elimination.specs.Run.{cell}
 use Rattle.elimination.specs.Code.{Working}
-
--- row k lies before row i
-pub rows-apart : (n k i : ℕ) → k < i → k * n + n ≤ i * n
-rows-apart n k i h =
-    let e : (k + 1) * n ≡ k * n + n = rw (add-mul k 1 n, one-mul n) in
-    rw (← e) (mul-le-mul {n₁ = k + 1} {m₁ = n} {n₂ = i} {m₂ = n} (omega arith) (omega arith))
 
 pub cell-before : (n i j : ℕ) → i < n → j < n → cell n i j < n * n
 cell-before n i j h k = omega (arith, rows-apart n i n h)
 
 pub row-small : (n i : ℕ) → n ≤ 32 → i < n → i * n ≤ 992
 row-small n i h k = mul-le-mul {n₁ = i} {m₁ = n} {n₂ = 31} {m₂ = 32} (omega arith) h
-
-pub square-small : (n : ℕ) → n ≤ 32 → n * n ≤ 1024
-square-small n h = mul-le-mul {n₁ = n} {m₁ = n} {n₂ = 32} {m₂ = 32} h h
 
 -- the working copy has room for each cell
 pub cell-room : (n i j : ℕ) {t : List ℤ} → Working n t → i < n → j < n → 2 * cell n i j + 1 < length t

@@ -13,7 +13,8 @@ use Rattle.inputs.proofs.Place.{at-put-other}
 use Rattle.elimination.specs.Run.{done, cell, rhs}
 use Rattle.elimination.specs.Forward.{columns, rightSide, rows, pivots, forward}
 use Rattle.elimination.specs.Code.{Pivots}
-use Rattle.elimination.proofs.Index.{cell-before, rows-apart}
+use Rattle.elimination.proofs.Index.{cell-before}
+use Rattle.inputs.proofs.Tests.{rows-apart}
 use Rattle.elimination.proofs.Run.{done-same, joined, ranged, stepped}
 
 -- the same interval at q in both lists

@@ -3,7 +3,6 @@ pub mod Value
 pub mod Run
 pub mod Kept
 pub mod Step
-pub mod Copy
 pub mod Unit
 pub mod Forward
 pub mod Back

@@ -50,6 +50,3 @@ outcomeOf (done x) = outcome.Done
 abbrev pub boxAfter : Run → List ℤ → List ℤ
 boxAfter (stop o) lent = lent
 boxAfter (done x) lent = x
-
-abbrev pub system : ℕ → List ℤ → List ℤ → System
-system n m r = record { size = n; matrix = m; right = r }

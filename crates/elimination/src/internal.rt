@@ -1,6 +1,5 @@
 // The calculation, after the tests.
 pub mod back;
-pub mod copy;
 pub mod forward;
 pub mod solve;
 pub mod step;

@@ -10,7 +10,8 @@ use outcome::Outcome;
 ghost use mathlib.Core.Path.{_≡_};
 ghost use lib.ListN.{length};
 ghost use Rattle.outcome.specs.Table.{paper};
-ghost use Rattle.elimination.specs.Call.{system, tests, overA, overB, outcomeOf, boxAfter};
+ghost use Rattle.inputs.specs.Tests.{system};
+ghost use Rattle.elimination.specs.Call.{tests, overA, overB, outcomeOf, boxAfter};
 
 // How a part of the calculation ended.
 pub enum Ending {

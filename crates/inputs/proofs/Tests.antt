@@ -4,7 +4,7 @@ use mathlib.Core.Bool.{Bool, true, false, _&&_}
 use mathlib.Core.List.{List}
 use Prim.Native.Nat.{ℕ, zero, suc, _+_, _-_, _*_, _≤_, _<_}
 use native.Mathlib.Omega.{arith}
-use native.Mathlib.Nat.{mul-le-mul}
+use native.Mathlib.Nat.{mul-le-mul, add-mul, one-mul}
 use borrow.Author.Tests.{le-leb, lt-leb, leb-true, eq-eqb, ne-eqb, eqb-true}
 use lib.Dec.{leb, eqb}
 use lib.IntN.{ℤ}
@@ -25,7 +25,12 @@ unfolding both
 both-pass Pass t e = (refl, e)
 both-pass (Fail o) t e = never o e
 
-need-pass : (b : Bool) (o : Outcome) → need b o ≡ Pass → b ≡ true
+pub both-last : (t : Test) → t ≡ both t Pass
+unfolding both
+both-last Pass = refl
+both-last (Fail o) = refl
+
+pub need-pass : (b : Bool) (o : Outcome) → need b o ≡ Pass → b ≡ true
 unfolding need
 need-pass true o e = refl
 need-pass false o e = never o e
@@ -53,6 +58,12 @@ module _ (n : ℕ) where
 -- ---- test 2
 pub square : (n : ℕ) → n ≤ 32 → n * n ≤ 1024
 square n h = mul-le-mul {n₁ = n} {m₁ = n} {n₂ = 32} {m₂ = 32} h h
+
+-- row k lies before row i
+pub rows-apart : (n k i : ℕ) → k < i → k * n + n ≤ i * n
+rows-apart n k i h =
+    let e : (k + 1) * n ≡ k * n + n = rw (add-mul k 1 n, one-mul n) in
+    rw (← e) (mul-le-mul {n₁ = k + 1} {m₁ = n} {n₂ = i} {m₂ = n} (omega arith) (omega arith))
 
 module _ (n m r b : ℕ) where
   pub long-matrix : (m ≡ 2 * (n * n) → ⊥) → Fail (outcome.Length 1) ≡ long (slices n m r b)

@@ -17,6 +17,9 @@ pub record System : Type 0 where
   pub matrix : List ℤ
   pub right : List ℤ
 
+abbrev pub system : ℕ → List ℤ → List ℤ → System
+system n m r = record { size = n; matrix = m; right = r }
+
 -- a second test counts where the first passes
 unfoldable pub both : Test → Test → Test
 both Pass t = t

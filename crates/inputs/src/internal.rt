@@ -1,3 +1,5 @@
+pub mod copy;
+
 use crate::Test;
 use interval::Interval;
 use interval::internal::is_acceptable;

@@ -9,7 +9,7 @@ ghost use lib.IntN.{pos};
 ghost use lib.Signed.{_≤ℤ_, _<ℤ_};
 ghost use Rattle.integer.specs.Rounding.{floorDiv, ceilDiv};
 ghost use Rattle.integer.specs.Extremes.{minimum, maximum};
-ghost use Rattle.interval.specs.Interval.{within, inRange, acceptable, containsZero, exactSum, exactDifference, product, quotient, intersection, least, greatest, negated};
+ghost use Rattle.interval.specs.Interval.{within, inRange, acceptable, containsZero, exactSum, exactDifference, product, quotient, intersection, least, greatest, negated, isEmpty};
 ghost use Rattle.interval.specs.Size.{Representable};
 
 fn within(z: i64) -> bool
@@ -171,4 +171,11 @@ pub fn intersection(x: Interval, y: Interval) -> Interval
     let lo = max_of(a, c);
     let hi = min_of(b, d);
     Interval { lo, hi }
+}
+
+// Nothing lies in the interval.
+pub fn is_empty(v: Interval) -> bool
+    ensures { λ r. ⌜ r ≡ isEmpty v ⌝ }
+{
+    v.hi < v.lo
 }

@@ -51,11 +51,15 @@ last settled lent X = X
 last spent lent X = X
 last (swept Y l) lent X = last l lent Y
 
--- 'Tests run in the sequence 8, 1, 2, 4, 3': 4 is 'sweeps allowed are 0 or above 10,000'
+-- 4: 'sweeps allowed are 0 or above 10,000'
+unfoldable pub allowance : ℕ → Test
+allowance k = need (leb 1 k && leb k 10000) outcome.Allowed
+
+-- 'Tests run in the sequence 8, 1, 2, 4, 3'
 unfoldable pub tests : System → (allowed : ℕ) → List ℤ → Test
 tests s k X =
     both (sizes (s .size) (length (s .matrix)) (length (s .right)) (length X))
-    (both (need (leb 1 k && leb k 10000) outcome.Allowed)
+    (both (allowance k)
     (allProper 0
     (record { numbers = s .matrix; count = s .size * s .size }
     ∷ record { numbers = s .right; count = s .size }

@@ -1,3 +1,4 @@
 pub mod Pass
 pub mod Call
 pub mod Calls
+pub mod Code

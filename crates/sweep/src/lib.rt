@@ -1,1 +1,32 @@
-// Sweeps that tighten a box: definitions in specs/.
+pub mod internal;
+
+use crate::internal::calls::run;
+use crate::internal::tests::tested;
+use inputs::Test;
+use outcome::Outcome;
+ghost use mathlib.Core.Path.{_≡_};
+ghost use Rattle.outcome.specs.Table.{paper};
+ghost use Rattle.inputs.specs.Tests.{system};
+ghost use Rattle.sweep.specs.Call.{outcomeOf, countOf, boxAfter};
+ghost use Rattle.sweep.specs.Calls.{Call, sweepCall, answer};
+
+// What a sweep call returns: its outcome and the number of whole sweeps done.
+pub struct Swept {
+    pub outcome: Outcome,
+    pub count: usize,
+}
+
+// Tightens the lent box by at most so many sweeps.
+pub fn sweep(n: usize, b_matrix: &[i64], b: &[i64], bounds: &mut [i64], allowed: usize) -> Swept
+    ensures outcome { λ r. ⌜ paper (r .outcome) ≡ paper (outcomeOf (answer (system n (now («b_matrix» .entry)) (now (b .entry))) (sweepCall allowed) (now (bounds .entry)))) ⌝ }
+    ensures counted { λ r. ⌜ r .count ≡ countOf (answer (system n (now («b_matrix» .entry)) (now (b .entry))) (sweepCall allowed) (now (bounds .entry))) ⌝ }
+    ensures written { λ r. ⌜ now (bounds .exit) ≡ boxAfter (answer (system n (now («b_matrix» .entry)) (now (b .entry))) (sweepCall allowed) (now (bounds .entry))) (now (bounds .entry)) ⌝ }
+{
+    match tested(n, b_matrix, b, bounds, allowed) {
+        Test::Pass => run(n, b_matrix, b, bounds, allowed),
+        Test::Fail(o) => Swept {
+            outcome: o,
+            count: 0,
+        },
+    }
+}

@@ -1,20 +1,20 @@
 use crate::Ending;
 use crate::internal::back::back;
-use crate::internal::copy::copy_in;
-use crate::internal::copy::copy_out;
 use crate::internal::forward::forward;
 use crate::internal::unit::unit_rows;
+use inputs::internal::copy::copy_in;
+use inputs::internal::copy::copy_out;
 use outcome::Outcome;
 ghost use mathlib.Core.Path.{_≡_};
 ghost use mathlib.Core.List.{List};
 ghost use Prim.Native.Nat.{ℕ, _*_};
 ghost use lib.ListN.{length};
 ghost use Rattle.inputs.specs.declared.Test.the-variants.{Pass};
-ghost use Rattle.inputs.specs.Tests.{System};
+ghost use Rattle.inputs.specs.Tests.{System, system};
 ghost use Rattle.rows.specs.Sum.{singly};
 ghost use Rattle.elimination.specs.Run.{andThen};
 ghost use Rattle.elimination.specs.Unit.{unitRows};
-ghost use Rattle.elimination.specs.Call.{copied, solved, tests, system};
+ghost use Rattle.elimination.specs.Call.{copied, solved, tests};
 ghost use Rattle.elimination.specs.Code.{Working, Ended};
 
 // Eliminates in the working copy and writes the box at the end.

@@ -8,7 +8,7 @@ use Rattle.interval.specs.Interval.{acceptable, containsZero, inRange, exactDif
 use Rattle.rows.specs.Sum.{singly}
 use Rattle.elimination.specs.Back.{numerator}
 use Rattle.elimination.specs.Code.{unknown}
-use Rattle.elimination.proofs.Index.{rows-apart}
+use Rattle.inputs.proofs.Tests.{rows-apart}
 use Rattle.elimination.proofs.Value.{quotient-order}
 use Rattle.elimination.proofs.Back.{numerator-is, numerator-fits, numerator-accepted, solved-placed, solved-not}
 use Rattle.elimination.proofs.internal.back.unknown.Statement.{statement}

@@ -5,7 +5,8 @@ use denote.Ref.{now}
 use lib.IntN.{ℤ}
 use lib.ListN.{length}
 use Rattle.elimination.specs.Unit.{unitRows}
-use Rattle.elimination.specs.Call.{copied, system}
+use Rattle.inputs.specs.Tests.{system}
+use Rattle.elimination.specs.Call.{copied}
 use Rattle.elimination.specs.Code.{Working, Ran}
 use Rattle.elimination.proofs.Step.{working-after, ran-done, ran-stop}
 use Rattle.elimination.proofs.Call.{Ready, ready, copied-fits, copied-working, ended-stop, ended-on}

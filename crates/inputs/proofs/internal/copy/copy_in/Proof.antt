@@ -1,8 +1,8 @@
 use denote.Ref.{now}
 use borrow.Author.Needs.{needs}
-use Rattle.elimination.proofs.Copy.{pasted-both}
-use Rattle.elimination.proofs.internal.copy.copy_in.Statement.{statement}
-use Rattle.elimination.proofs.internal.copy.copy_in.Tie as tie
+use Rattle.inputs.proofs.Copy.{pasted-both}
+use Rattle.inputs.proofs.internal.copy.copy_in.Statement.{statement}
+use Rattle.inputs.proofs.internal.copy.copy_in.Tie as tie
 
 fill-requires : tie.Need-fill-requires
 fill-requires c κs = search needs

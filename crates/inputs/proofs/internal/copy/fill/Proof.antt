@@ -6,9 +6,9 @@ use mir.Syntax.{w64}
 use mir.ValLaws.{toZ-ofZ}
 use lib.ListN.{length, length-set}
 use lib.Seq.{paste, paste-zero}
-use Rattle.elimination.proofs.Copy.{paste-more}
-use Rattle.elimination.proofs.internal.copy.fill.Statement.{statement}
-use Rattle.elimination.proofs.internal.copy.fill.Tie as tie
+use Rattle.inputs.proofs.Copy.{paste-more}
+use Rattle.inputs.proofs.internal.copy.fill.Statement.{statement}
+use Rattle.inputs.proofs.internal.copy.fill.Tie as tie
 
 abbrev Inv-loop : tie.InvT-loop
 Inv-loop t₀ s at i₀ i-end t i = (i ≤ length s) × (length t ≡ length t₀) × (t ≡ paste t₀ at s i)

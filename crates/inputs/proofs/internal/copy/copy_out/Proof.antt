@@ -6,9 +6,9 @@ use mir.Syntax.{w64}
 use mir.ValLaws.{toZ-ofZ}
 use lib.ListN.{length, drop, length-set}
 use lib.Seq.{paste}
-use Rattle.elimination.proofs.Copy.{out-more, out-end}
-use Rattle.elimination.proofs.internal.copy.copy_out.Statement.{statement}
-use Rattle.elimination.proofs.internal.copy.copy_out.Tie as tie
+use Rattle.inputs.proofs.Copy.{out-more, out-end}
+use Rattle.inputs.proofs.internal.copy.copy_out.Statement.{statement}
+use Rattle.inputs.proofs.internal.copy.copy_out.Tie as tie
 
 -- a copy to the front of x₀, of what stands in t from a place on
 abbrev Inv-loop : tie.InvT-loop

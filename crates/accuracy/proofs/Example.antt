@@ -1,0 +1,48 @@
+-- The solution that document 01 names for its fifth sample, checked on numerals.
+use mathlib.Core.Path.{refl}
+use Prim.Native.Nat.{ℕ, zero, suc, _<_}
+use native.Mathlib.Omega.{arith}
+use lib.IntN.{pos, negsuc}
+use lib.Signed.{leZ-yes, ltZ-yes}
+use Rattle.interval.specs.Interval.{scale, exactDifference}
+use Rattle.fraction.specs.Fraction.{Fraction, Inside, Same, sum, productAt}
+use Rattle.inputs.specs.Place.{at}
+use Rattle.rows.specs.Exact.{exactRow}
+use Rattle.elimination.specs.Run.{cell}
+use Rattle.elimination.specs.Unit.{unit}
+use Rattle.accuracy.specs.Solution.{numbers, balanceOf}
+use Rattle.accuracy.specs.Beside.{fifth, weight, Example}
+
+-- the share is 1 − 4/3
+abbrev share : Fraction
+share = record { num = negsuc 999999; den = pos 3; above = ltZ-yes tt }
+
+abbrev delivery : Fraction
+delivery = record { num = pos 9000000; den = pos 7; above = ltZ-yes tt }
+
+share-in : (i j : ℕ) → i < 1 → j < 1 → Inside (at (balanceOf fifth .matrix) (cell 1 i j)) share
+unfolding balanceOf numbers at exactDifference unit scale
+share-in zero zero h k = record { low = leZ-yes tt; high = leZ-yes tt }
+share-in zero (suc j) h k = absurd (omega arith)
+share-in (suc i) j h k = absurd (omega arith)
+
+delivery-in : (i : ℕ) → i < 1 → Inside (at (balanceOf fifth .right) i) delivery
+unfolding balanceOf at
+delivery-in zero h = record { low = leZ-yes tt; high = leZ-yes tt }
+delivery-in (suc i) h = absurd (omega arith)
+
+row : Same weight (exactRow (λ j. share) (λ j. weight) 1 0 delivery)
+unfolding exactRow sum productAt scale
+row = record { holds = refl }
+
+pub example : Example
+unfolding balanceOf
+example =
+    record {
+      solves = record {
+        choice = record { share = λ i j. share; delivery = λ i. delivery; share-in = share-in; delivery-in = delivery-in };
+        meets = record { row = λ i h. row };
+      };
+      in-box = record { low = leZ-yes tt; high = leZ-yes tt };
+      missed = λ h. h .low .le;
+    }

@@ -1,0 +1,86 @@
+-- One turn of the loop of a sweep, and what stays true of the box.
+use mathlib.Core.Path.{_≡_, refl, sym, _∙_}
+use mathlib.Core.Bool.{Bool, true, false, _||_}
+use mathlib.Core.List.{List}
+use Prim.Native.Nat.{ℕ, suc, _+_, _-_, _*_, _≤_, _<_}
+use native.Mathlib.Omega.{arith}
+use lib.IntN.{ℤ}
+use lib.ListN.{length}
+use lib.Signed.{_≤ℤ_}
+use Rattle.integer.proofs.Order.{left, trans}
+use Rattle.integer.proofs.Extremes.{le-max-right, min-le-right}
+use Rattle.interval.specs.declared.Interval.{Interval}
+use Rattle.interval.specs.Interval.{acceptable, exactSum, intersection, isEmpty}
+use Rattle.interval.specs.Size.{Representable}
+use Rattle.interval.proofs.Range.{is-sound, sound-accepted}
+use Rattle.inputs.specs.Tests.{System, system}
+use Rattle.inputs.specs.Place.{at, put, Sound}
+use Rattle.inputs.proofs.Place.{length-put, sound-put}
+use Rattle.rows.specs.Sum.{RowSum, singly}
+use Rattle.rows.proofs.Size.{small-fits, sum-small, acceptable-small}
+use Rattle.rows.proofs.Sum.{singly-small}
+use Rattle.sweep.specs.Pass as pass
+use Rattle.sweep.specs.Pass.{component, changes, sweepFrom}
+use Rattle.sweep.specs.Code.{Ready}
+
+module _ (sum : RowSum) (s : System) (i : ℕ) (c : Bool) (x : List ℤ) where
+  pub sweep-end : s .size ≤ i → sweepFrom sum s (s .size - i) i c x ≡ pass.whole c x
+  unfolding sweepFrom
+  sweep-end h = let e : s .size - i ≡ 0 = omega arith in rw e
+
+  pub sweep-stop : i < s .size → isEmpty (component sum s x i) ≡ true → sweepFrom sum s (s .size - i) i c x ≡ pass.stopped (i + 1)
+  unfolding sweepFrom
+  sweep-stop h f = let e : s .size - i ≡ suc (s .size - (i + 1)) = omega arith in rw (e, f)
+
+  pub sweep-go : i < s .size → isEmpty (component sum s x i) ≡ false → sweepFrom sum s (s .size - i) i c x ≡ sweepFrom sum s (s .size - (i + 1)) (i + 1) (c || changes (at x i) (component sum s x i)) (put x i (component sum s x i))
+  unfolding sweepFrom
+  sweep-go h f = let e : s .size - i ≡ suc (s .size - (i + 1)) = omega arith in rw (e, f)
+
+-- what is not empty has its ends in sequence
+pub not-empty : {v : Interval} → isEmpty v ≡ false → v .lo ≤ℤ v .hi
+unfolding isEmpty
+not-empty {v} e = left (v .hi) (v .lo) e
+
+-- ---- one component
+module _ {n : ℕ} {m r x : List ℤ} (w : Ready n m r x) (i : ℕ) where
+  pub component-is : {b s o : Interval} → b ≡ at r i → s ≡ singly m (i * n) x 0 n → o ≡ at x i → intersection (exactSum b s) o ≡ component singly (system n m r) x i
+  unfolding component
+  component-is e f g = λ k. intersection (exactSum (e k) (f k)) (g k)
+
+  pub component-fits : Representable (exactSum (at r i) (singly m (i * n) x 0 n))
+  component-fits = small-fits (omega (arith, w .few)) (sum-small (acceptable-small _ (w .right-sound .each i)) (singly-small m (i * n) x 0 n (w .matrix-sound) (w .box-sound)))
+
+  component-accepted : isEmpty (component singly (system n m r) x i) ≡ false → acceptable (component singly (system n m r) x i) ≡ true
+  unfolding component intersection
+  component-accepted e =
+      let o = is-sound (at x i) (w .box-sound .each i) in
+      let h = not-empty e in
+      let low = trans (o .lo-in .low) (le-max-right _ (at x i .lo)) in
+      let high = trans (min-le-right _ (at x i .hi)) (o .hi-in .high) in
+      sound-accepted _ (record { order = h; lo-in = record { low = low; high = trans h high }; hi-in = record { low = trans low h; high = high } })
+
+  -- the box stays one of intervals
+  pub ready-put : i < n → isEmpty (component singly (system n m r) x i) ≡ false → Ready n m r (put x i (component singly (system n m r) x i))
+  ready-put h e =
+      record {
+        few = w .few;
+        matrix = w .matrix;
+        right = w .right;
+        box = length-put x i _ ∙ w .box;
+        matrix-sound = w .matrix-sound;
+        right-sound = w .right-sound;
+        box-sound = sound-put x i _ (w .box-sound) (omega (arith, w .box)) (component-accepted e);
+      }
+
+-- ---- one turn
+module _ {n i : ℕ} {m r x : List ℤ} {v : Interval} (w : Ready n m r x) (h : i < n) (e : v ≡ component singly (system n m r) x i) where
+  pub turn-stops : (c : Bool) → isEmpty v ≡ true → sweepFrom singly (system n m r) (n - i) i c x ≡ pass.stopped (i + 1)
+  turn-stops c f = sweep-stop singly (system n m r) i c x h (rw e at f)
+
+  pub turn-goes : (c : Bool) {d : Bool} {o : Interval} {y : List ℤ} → isEmpty v ≡ false → o ≡ at x i → d ≡ (c || changes o v) → y ≡ put x i v →
+      Ready n m r y × (sweepFrom singly (system n m r) (n - i) i c x ≡ sweepFrom singly (system n m r) (n - (i + 1)) (i + 1) d y)
+  turn-goes c f g p q = rw (q, p, g, e) (ready-put w i h (rw e at f), sweep-go singly (system n m r) i c x h (rw e at f))
+
+-- a box that is as long, and of intervals
+pub ready-after : {n : ℕ} {m r x y : List ℤ} → Ready n m r x → length y ≡ length x → Sound y → Ready n m r y
+ready-after w l h = record { few = w .few; matrix = w .matrix; right = w .right; box = l ∙ w .box; matrix-sound = w .matrix-sound; right-sound = w .right-sound; box-sound = h }

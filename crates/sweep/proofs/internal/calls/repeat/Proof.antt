@@ -1,0 +1,116 @@
+use mathlib.Core.Path.{_≡_, refl, sym, ap, _∙_}
+use Prim.Native.Nat.{_-_, _≤_, _+_}
+use native.Mathlib.Omega.{arith}
+use native.Mathlib.Nat.{sub-zero}
+use borrow.Author.Needs.{needs}
+use borrow.Author.Tests.{not-true, not-false}
+use lib.ListN.{length}
+use Rattle.inputs.specs.Tests.{system}
+use Rattle.rows.specs.Sum.{singly}
+use Rattle.sweep.specs.Pass.{sweep}
+use Rattle.sweep.specs.Call.{sweeps}
+use Rattle.sweep.specs.Code.{Ready}
+use Rattle.sweep.proofs.Pass.{ready-after}
+use Rattle.sweep.proofs.Log.{sweeps-spent, sweeps-emptied, sweeps-settled, sweeps-go, Since, since-start, since-more, logged-emptied, logged-settled, logged-spent, was-stopped, was-whole}
+use Rattle.sweep.proofs.internal.calls.repeat.Statement.{statement}
+use Rattle.sweep.proofs.internal.calls.repeat.Tie as tie
+use Rattle.sweep.proofs.internal.calls.repeat.Reads as reads
+use Rattle.sweep.proofs.internal.calls.repeat.Lts as lts
+use Rattle.sweep.proofs.internal.pass.sweep_once.Reads as sweep-once-reads
+
+abbrev Inv-loop : tie.InvT-loop
+Inv-loop n m r x₀ allowed count₀ x count =
+    (count ≤ allowed) × Ready n m r x × Since (sweeps (sweep singly (system n m r)) allowed x₀) x₀ count (sweeps (sweep singly (system n m r)) (allowed - count) x) x
+
+abbrev μ-loop : tie.MeasureT-loop
+μ-loop n m r x₀ allowed count₀ x count = allowed - count
+
+-- src/internal/calls.rt:34:5
+loop-holds : tie.Need-loop-holds Inv-loop μ-loop
+loop-holds c = (omega arith, c .pre .0, rw sub-zero (since-start _ _))
+
+-- src/internal/calls.rt:35:15
+sweep-once-requires : tie.Need-sweep-once-requires Inv-loop μ-loop
+sweep-once-requires c κs = c .before .before .loop .inv .1
+
+-- src/internal/calls.rt:36:31
+enum-known-i : tie.Need-enum-known-i Inv-loop μ-loop
+enum-known-i c = search needs
+
+-- src/internal/calls.rt:37:17
+same-length : tie.Need-same-length Inv-loop μ-loop
+same-length c =
+    let u = c .before .before .before .before in
+    let l = u .before .before .before in
+    u .sweep-once .kept .1 .1 .1 .0 ∙ l .loop .inv .1 .box ∙ sym (l .before .pre .0 .box)
+
+-- src/internal/calls.rt:37:17
+returns : tie.Need-returns Inv-loop μ-loop
+returns c =
+    let u = c .before .before .before .before in
+    let l = u .before .before .before in
+    logged-emptied (l .loop .inv .2) _ (sweeps-emptied _ _ _ _ (u .before .before .loop-test .taken) (was-stopped (u .sweep-once .ensures) (c .before .i .given .1)))
+
+-- src/internal/calls.rt:42:29
+enum-known-changed : tie.Need-enum-known-changed Inv-loop μ-loop
+enum-known-changed c = search needs
+
+-- src/internal/calls.rt:43:17
+add-count : tie.Need-add-count Inv-loop μ-loop
+add-count c = search needs
+
+-- src/internal/calls.rt:45:21
+same-length-2 : tie.Need-same-length-2 Inv-loop μ-loop
+same-length-2 c =
+    let u = c .before .before .before .before .before in
+    let l = u .before .before .before in
+    u .sweep-once .kept .1 .1 .1 .0 ∙ l .loop .inv .1 .box ∙ sym (l .before .pre .0 .box)
+
+-- src/internal/calls.rt:45:21
+returns-2 : tie.Need-returns-2 Inv-loop μ-loop
+returns-2 c =
+    let u = c .before .before .before .before .before in
+    let l = u .before .before .before in
+    let e = was-whole (u .sweep-once .ensures) (c .before .before .changed .given .1) (not-true _ (c .if1 .taken)) in
+    logged-settled (since-more (l .loop .inv .2) (sweeps-settled _ _ _ _ (u .before .before .loop-test .taken) e)) refl
+
+-- src/internal/calls.rt:34:5
+loop-less : tie.Need-loop-less Inv-loop μ-loop
+loop-less c = search needs
+
+-- src/internal/calls.rt:34:5
+loop-again : tie.Need-loop-again Inv-loop μ-loop
+loop-again c =
+    let u = c .before .before .before .before .before in
+    let l = u .before .before .before in
+    let h = u .before .before .loop-test .taken in
+    let e = was-whole (u .sweep-once .ensures) (c .before .before .changed .given .1) (not-false _ (c .if1 .left)) in
+    (omega arith, ready-after (l .loop .inv .1) (u .sweep-once .kept .1 .1 .1 .0) (u .sweep-once .ensures .sound), since-more (l .loop .inv .2) (sweeps-go _ _ _ _ h e))
+
+-- src/internal/calls.rt:29:1
+same-length-3 : tie.Need-same-length-3 Inv-loop μ-loop
+same-length-3 c = let l = c .before in l .loop .inv .1 .box ∙ sym (l .before .pre .0 .box)
+
+-- src/internal/calls.rt:29:1
+returns-3 : tie.Need-returns-3 Inv-loop μ-loop
+returns-3 c = let l = c .before in logged-spent (l .loop .inv .2) (sweeps-spent _ _ _ _ (c .loop-test .left))
+
+pub repeat-spec : {M : Type 1} → statement M
+repeat-spec =
+    tie.close
+    (tie.spec
+    Inv-loop
+    μ-loop
+    loop-holds
+    sweep-once-requires
+    enum-known-i
+    same-length
+    returns
+    enum-known-changed
+    add-count
+    same-length-2
+    returns-2
+    loop-less
+    loop-again
+    same-length-3
+    returns-3)

@@ -1,0 +1,41 @@
+use mathlib.Core.Path.{_≡_, sym}
+use Prim.Native.Nat.{_*_, _≤_}
+use native.Mathlib.Omega.{arith}
+use borrow.Author.Needs.{needs}
+use lib.Seq.{length-take-le}
+use Rattle.sweep.proofs.Tests.{ready}
+use Rattle.sweep.proofs.internal.calls.run.Statement.{statement}
+use Rattle.sweep.proofs.internal.calls.run.Tie as tie
+
+-- 2·n numbers fit the copy
+room : (c : tie.Start) → 2 * c .args .n ≤ 64
+room c = omega (arith, ready _ _ _ _ _ (c .pre) .few)
+
+mul-x : tie.Need-mul-x
+mul-x c = omega (arith, room c)
+
+array-borrow-prefix-x : tie.Need-array-borrow-prefix-x
+array-borrow-prefix-x c = room c
+
+slice-aggregate-tighten : tie.Need-slice-aggregate-tighten
+slice-aggregate-tighten c = sym (length-take-le _ _ (room (c .before)))
+
+tighten-requires : tie.Need-tighten-requires
+tighten-requires c κs = (c .before .before .pre, length-take-le _ _ (room (c .before .before)))
+
+same-length : tie.Need-same-length
+same-length c = search needs
+
+returns : tie.Need-returns
+returns c = search needs
+
+pub run-spec : {M : Type 1} → statement M
+run-spec =
+    tie.close
+    (tie.spec
+    mul-x
+    array-borrow-prefix-x
+    slice-aggregate-tighten
+    tighten-requires
+    same-length
+    returns)

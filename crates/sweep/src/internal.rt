@@ -1,0 +1,4 @@
+// The sweeps, after the tests.
+pub mod calls;
+pub mod pass;
+pub mod tests;
