@@ -6,6 +6,7 @@ pub mod archive;
 pub mod case;
 pub mod comparison;
 pub mod generator;
+pub mod list;
 pub mod plan;
 pub mod reference;
 pub mod samples;

@@ -1,6 +1,6 @@
 //! What the command line of `differential` asks for.
 
-pub const USAGE: &str = "usage: differential [pairs=N] [systems=N] [seed=N]";
+pub const USAGE: &str = "usage: differential [pairs=N] [systems=N] [sweeps=N] [seed=N]";
 
 #[derive(Clone, Copy, Debug, PartialEq, Eq)]
 pub struct Plan {
@@ -8,6 +8,8 @@ pub struct Plan {
     pub pairs: usize,
     /// Random systems over both elimination calls.
     pub systems: usize,
+    /// Random sweep calls.
+    pub sweeps: usize,
     pub seed: u64,
 }
 
@@ -15,6 +17,7 @@ impl Plan {
     const DEFAULT: Plan = Plan {
         pairs: 5_000_000,
         systems: 1_000_000,
+        sweeps: 2_000_000,
         seed: 1,
     };
 
@@ -25,6 +28,7 @@ impl Plan {
             match argument.split_once('=')? {
                 ("pairs", number) => plan.pairs = number.parse().ok()?,
                 ("systems", number) => plan.systems = number.parse().ok()?,
+                ("sweeps", number) => plan.sweeps = number.parse().ok()?,
                 ("seed", number) => plan.seed = number.parse().ok()?,
                 _ => return None,
             }
@@ -46,16 +50,19 @@ mod tests {
         let plan = Plan {
             pairs: 2,
             systems: 3,
+            sweeps: 5,
             seed: 4,
         };
-        assert_eq!(read(&["pairs=2", "systems=3", "seed=4"]), Some(plan));
-        assert_eq!(read(&["seed=4", "systems=3", "pairs=2"]), Some(plan));
+        let arguments = ["pairs=2", "systems=3", "sweeps=5", "seed=4"];
+        assert_eq!(read(&arguments), Some(plan));
+        let turned = ["seed=4", "sweeps=5", "systems=3", "pairs=2"];
+        assert_eq!(read(&turned), Some(plan));
         assert_eq!(read(&[]), Some(Plan::DEFAULT));
     }
 
     #[test]
     fn other_arguments_are_refused() {
-        for argument in ["2", "pairs", "pairs=", "pairs=-1", "sweeps=3"] {
+        for argument in ["2", "pairs", "pairs=", "pairs=-1", "sweep=3"] {
             assert_eq!(read(&[argument]), None, "{argument}");
         }
     }

@@ -6,7 +6,7 @@ use crate::reference::{Call, Outcome};
 /// An outcome as it crosses the C interface.
 #[repr(C)]
 #[derive(Clone, Copy, Debug, PartialEq, Eq)]
-struct KifwalebOutcome {
+pub(super) struct KifwalebOutcome {
     number: u64,
     place: u64,
     count: u64,

@@ -3,3 +3,5 @@
 #[cfg(feature = "elimination")]
 pub mod elimination;
 pub mod steps;
+#[cfg(feature = "sweep")]
+pub mod sweep;

@@ -95,15 +95,6 @@ impl Tally {
         counts.map(|(_, count)| count).sum()
     }
 
-    /// The event of `call` that was met least often, with its count.
-    pub fn rarest(&self, call: Call) -> (Event, u64) {
-        let counted = Event::all(call).into_iter();
-        let rarest = counted
-            .map(|event| (event, self.count(event)))
-            .min_by_key(|(_, count)| *count);
-        rarest.expect("every call can reach something")
-    }
-
     /// Events that `call` can reach and did not.
     pub fn unreached(&self, call: Call) -> Vec<Event> {
         let events = Event::all(call).into_iter();
@@ -202,7 +193,6 @@ mod tests {
         rest.iter().for_each(|event| tally.add(*event));
         tally.add(rest[0]);
         assert_eq!(tally.unreached(Call::Eliminate), [*left_out]);
-        assert_eq!(tally.rarest(Call::Eliminate), (*left_out, 0));
         assert_eq!(tally.total(), everything.len() as u64);
         assert_eq!(tally.count(rest[0]), 2);
     }

@@ -2,4 +2,6 @@
 
 pub mod events;
 pub mod steps;
+pub mod sweep_events;
+pub mod sweeps;
 pub mod systems;

@@ -79,43 +79,44 @@ fn write_rows(formatter: &mut fmt::Formatter, numbers: &[i64], columns: usize) -
     Ok(())
 }
 
-impl Difference {
-    /// Only what the archive left otherwise than the reference.
-    fn write_left_behind(&self, formatter: &mut fmt::Formatter) -> fmt::Result {
-        let (expected, given) = (&self.expected, &self.given);
-        for (name, expected, given) in [
-            ("matrix", &expected.matrix, &given.matrix),
-            ("right side", &expected.right_side, &given.right_side),
-            ("box", &expected.bounds, &given.bounds),
-        ] {
-            if !given.is_intact() {
-                writeln!(formatter, "  the archive wrote past the {name}")?;
-            }
-            let both = expected.inside().iter().zip(given.inside());
-            for (place, (expected, given)) in both.enumerate() {
-                if expected != given {
-                    writeln!(formatter, "  number {place} of the {name}, from 0:")?;
-                    writeln!(formatter, "    reference: {expected}")?;
-                    writeln!(formatter, "    archive:   {given}")?;
-                }
+/// Only what the archive left otherwise than the reference.
+pub(super) fn write_left_behind(
+    formatter: &mut fmt::Formatter,
+    expected: &Answer,
+    given: &Answer,
+) -> fmt::Result {
+    for (name, expected, given) in [
+        ("matrix", &expected.matrix, &given.matrix),
+        ("right side", &expected.right_side, &given.right_side),
+        ("box", &expected.bounds, &given.bounds),
+    ] {
+        if !given.is_intact() {
+            writeln!(formatter, "  the archive wrote past the {name}")?;
+        }
+        let both = expected.inside().iter().zip(given.inside());
+        for (place, (expected, given)) in both.enumerate() {
+            if expected != given {
+                writeln!(formatter, "  number {place} of the {name}, from 0:")?;
+                writeln!(formatter, "    reference: {expected}")?;
+                writeln!(formatter, "    archive:   {given}")?;
             }
         }
-        Ok(())
     }
+    Ok(())
+}
 
-    fn write_lent(&self, formatter: &mut fmt::Formatter) -> fmt::Result {
-        // A size that is refused says nothing about the rows.
-        let columns = self.case.n.min(64);
-        for (name, numbers) in [
-            ("matrix", &self.case.matrix),
-            ("right side", &self.case.right_side),
-            ("box", &self.case.bounds),
-        ] {
-            writeln!(formatter, "  lent {name}, {} numbers:", numbers.len())?;
-            write_rows(formatter, numbers, columns)?;
-        }
-        Ok(())
+pub(super) fn write_lent(formatter: &mut fmt::Formatter, case: &Case) -> fmt::Result {
+    // A size that is refused says nothing about the rows.
+    let columns = case.n.min(64);
+    for (name, numbers) in [
+        ("matrix", &case.matrix),
+        ("right side", &case.right_side),
+        ("box", &case.bounds),
+    ] {
+        writeln!(formatter, "  lent {name}, {} numbers:", numbers.len())?;
+        write_rows(formatter, numbers, columns)?;
     }
+    Ok(())
 }
 
 impl fmt::Display for Difference {
@@ -124,8 +125,8 @@ impl fmt::Display for Difference {
         writeln!(formatter, "difference in {name}, n = {n}")?;
         writeln!(formatter, "  reference: {}", self.expected.outcome)?;
         writeln!(formatter, "  archive:   {}", self.given.outcome)?;
-        self.write_left_behind(formatter)?;
-        self.write_lent(formatter)
+        write_left_behind(formatter, &self.expected, &self.given)?;
+        write_lent(formatter, &self.case)
     }
 }
 

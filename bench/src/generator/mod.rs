@@ -3,8 +3,10 @@
 
 mod pairs;
 mod random;
+mod sweeps;
 mod systems;
 
 pub use pairs::{edge_pairs, random_pairs};
 pub use random::Random;
+pub use sweeps::{edge_lists, random_lists, random_lists_up_to};
 pub use systems::{edge_cases, random_cases, random_cases_up_to};

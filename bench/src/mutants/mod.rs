@@ -4,3 +4,4 @@
 mod elimination;
 mod rounding;
 mod steps;
+mod sweeps;

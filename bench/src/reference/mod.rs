@@ -7,6 +7,9 @@ mod interval;
 mod numbers;
 mod outcome;
 mod steps;
+mod sweep;
+#[cfg(test)]
+mod sweep_facts;
 mod system;
 
 pub use elimination::{calculate, eliminate, eliminate_balance, numerator, trace, Call, Trace};
@@ -14,4 +17,5 @@ pub use interval::{rounded_product, rounded_quotient, Interval, WideInterval, LI
 pub use numbers::*;
 pub use outcome::{Outcome, Phase, Slice, Stop};
 pub use steps::{difference, product, quotient, step, sum, Operation, Step};
+pub use sweep::{right_hand, sweep, sweep_end, sweeps, SweepEnd, MOST_SWEEPS};
 pub use system::{intervals, laid_flat, System, MOST_EQUATIONS};

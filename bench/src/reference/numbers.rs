@@ -1,6 +1,6 @@
 //! The numbers that document 01 returns.
 
-/// Done; the box is written.
+/// Done, or settled; the box is written.
 pub const DONE: u64 = 0;
 /// The number of equations is 0 or above 32.
 pub const FAULTY_SIZE: u64 = 1;
@@ -8,7 +8,13 @@ pub const FAULTY_SIZE: u64 = 1;
 pub const FAULTY_LENGTH: u64 = 2;
 /// Ends out of sequence or out of the range.
 pub const FAULTY_ENDS: u64 = 3;
+/// The number of sweeps allowed is 0 or above 10,000.
+pub const FAULTY_ALLOWANCE: u64 = 4;
 /// A divisor or pivot contains 0.
 pub const ZERO_DIVISOR: u64 = 5;
 /// A result is out of the range.
 pub const RESULT_OUT_OF_RANGE: u64 = 6;
+/// An intersection is empty.
+pub const EMPTY: u64 = 7;
+/// The last allowed sweep still changed an end; the box is written.
+pub const SPENT: u64 = 9;

@@ -43,7 +43,8 @@ pub enum Phase {
 pub enum Stop {
     Size,
     Length(Slice),
-    /// Counted in intervals from 0 through matrix and right side.
+    /// Counted in intervals from 0 through matrix, right side and, in a sweep
+    /// call, start box.
     Ends {
         position: usize,
     },
@@ -63,10 +64,14 @@ impl Outcome {
 
     /// An elimination counts no sweeps.
     pub const fn new(number: u64, place: u64) -> Outcome {
+        Outcome::counted(number, place, 0)
+    }
+
+    pub const fn counted(number: u64, place: u64, count: u64) -> Outcome {
         Outcome {
             number,
             place,
-            count: 0,
+            count,
         }
     }
 }

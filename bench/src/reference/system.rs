@@ -62,7 +62,7 @@ impl System {
     }
 }
 
-fn test_size(n: usize) -> Result<(), Stop> {
+pub(super) fn test_size(n: usize) -> Result<(), Stop> {
     if n == 0 || n > MOST_EQUATIONS {
         Err(Stop::Size)
     } else {
@@ -71,7 +71,7 @@ fn test_size(n: usize) -> Result<(), Stop> {
 }
 
 /// A slice that is too long has the wrong length as well.
-fn test_lengths(n: usize, given: [usize; 3]) -> Result<(), Stop> {
+pub(super) fn test_lengths(n: usize, given: [usize; 3]) -> Result<(), Stop> {
     let due = [2 * n * n, 2 * n, 2 * n];
     for ((slice, given), due) in Slice::ALL.into_iter().zip(given).zip(due) {
         if given != due {
@@ -81,7 +81,7 @@ fn test_lengths(n: usize, given: [usize; 3]) -> Result<(), Stop> {
     Ok(())
 }
 
-fn test_ends<'a>(intervals: impl Iterator<Item = &'a Interval>) -> Result<(), Stop> {
+pub(super) fn test_ends<'a>(intervals: impl Iterator<Item = &'a Interval>) -> Result<(), Stop> {
     for (position, interval) in intervals.enumerate() {
         if !interval.is_valid() {
             return Err(Stop::Ends { position });

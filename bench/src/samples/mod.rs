@@ -1,4 +1,5 @@
 //! The samples of the documents, counted in units.
 
 pub mod steps;
+pub mod sweeps;
 pub mod systems;

@@ -2,7 +2,7 @@
 use mathlib.Core.Path.{refl}
 use Rattle.integer.specs.Rounding.{floorDiv, ceilDiv}
 use Rattle.integer.specs.Extremes.{minimum, maximum}
-use Rattle.interval.specs.Interval.{scale, lowest, highest, within, inRange, acceptable, containsZero, exactSum, exactDifference, productAt, quotientAt}
+use Rattle.interval.specs.Interval.{scale, lowest, highest, within, inRange, acceptable, containsZero, exactSum, exactDifference, intersection, isEmpty, productAt, quotientAt}
 use Rattle.interval.specs.Answer.{badOperand, tested, ranged}
 use Rattle.inputs.specs.Place.{at, put}
 use Rattle.inputs.specs.Tests.{both, need, sized, long, sizes, proper, allProper}
@@ -12,8 +12,11 @@ use Rattle.elimination.specs.Forward.{pivoted, columns, rightSide, rows, pivots
 use Rattle.elimination.specs.Back.{numerator, back}
 use Rattle.elimination.specs.Unit.{unit, unitRow, unitRows}
 use Rattle.elimination.specs.Call as call
+use Rattle.sweep.specs.Pass as pass
+use Rattle.sweep.specs.Call as swept
+use Rattle.sweep.specs.Calls.{answer}
 use Rattle.samples.specs.Table.{table, Agrees}
 
 pub agree : Agrees table
-unfolding floorDiv ceilDiv minimum maximum scale lowest highest within inRange acceptable containsZero exactSum exactDifference productAt quotientAt badOperand tested ranged at put both need sized long sizes proper allProper summed singly andThen inRangeThen pivoted columns rightSide rows pivots forward numerator back unit unitRow unitRows call.copied call.box call.solved call.tests call.tested call.overA call.overB
-agree = (refl, (refl, (refl, (refl, (refl, (refl, (refl, (refl, (refl, (refl, (refl, (refl, (refl, (refl, tt))))))))))))))
+unfolding floorDiv ceilDiv minimum maximum scale lowest highest within inRange acceptable containsZero exactSum exactDifference intersection isEmpty productAt quotientAt badOperand tested ranged at put both need sized long sizes proper allProper summed singly andThen inRangeThen pivoted columns rightSide rows pivots forward numerator back unit unitRow unitRows call.copied call.box call.solved call.tests call.tested call.overA call.overB pass.component pass.changes pass.sweepFrom pass.sweep swept.sweeps swept.allowance swept.tests swept.tested answer
+agree = (refl, (refl, (refl, (refl, (refl, (refl, (refl, (refl, (refl, (refl, (refl, (refl, (refl, (refl, (refl, (refl, tt))))))))))))))))

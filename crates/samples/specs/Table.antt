@@ -12,6 +12,8 @@ use Rattle.inputs.specs.Place.{at}
 use Rattle.elimination.specs.Run.{Run, stop, done, andThen, cell}
 use Rattle.elimination.specs.Forward.{forward}
 use Rattle.elimination.specs.Call.{copied, overA, overB, outcomeOf, boxAfter}
+use Rattle.sweep.specs.Call as sweep
+use Rattle.sweep.specs.Calls.{sweepCall, answer}
 
 -- what a call returns: number, place, count and the numbers written, or the two ends of a step
 pub record Result : Type 0 where
@@ -48,6 +50,13 @@ stops r number place = record { calculated = eliminated r; listed = record { num
 abbrev thirdPivot : System → Run
 thirdPivot s = andThen (forward 3 (copied s)) (λ t. done (at t (cell 3 2 2) .lo ∷ at t (cell 3 2 2) .hi ∷ []))
 
+-- ---- sweeps
+abbrev swept : sweep.Answer → List ℤ → Result
+swept a x = record { number = paper (sweep.outcomeOf a) .number; place = paper (sweep.outcomeOf a) .place; count = sweep.countOf a; bounds = sweep.boxAfter a x }
+
+abbrev sweeps : System → (allowed : ℕ) → List ℤ → Result → Line
+sweeps s k x r = record { calculated = swept (answer s (sweepCall k) x) x; listed = r }
+
 -- the numbers of a list of intervals, and some intervals
 abbrev numbers : List Interval → List ℤ
 numbers [] = []
@@ -79,6 +88,16 @@ tridiagonal =
     ∷ whole 0 ∷ whole 3 ∷ whole 2 ∷ [])
     (whole 0 ∷ whole 0 ∷ whole 0 ∷ [])
 
+-- B and b of the program's input
+abbrev input : System
+input = system 2 (whole 0 ∷ ends (pos 0) (pos 500000) ∷ half ∷ whole 0 ∷ []) (whole 3 ∷ whole 0 ∷ [])
+
+abbrev startsWide : List ℤ
+startsWide = numbers (ends (pos 0) (pos 10000000) ∷ ends (pos 0) (pos 10000000) ∷ [])
+
+abbrev startsApart : List ℤ
+startsApart = numbers (ends (pos 5000000) (pos 6000000) ∷ ends (pos 0) (pos 1000000) ∷ [])
+
 abbrev pub table : List Line
 table =
     -- 0.000001 · 0.5 = [0, 0.000001]; −0.000001 · 0.5 = [−0.000001, 0]
@@ -103,6 +122,11 @@ table =
     -- Document 000, example 4.1: third pivot [−7.5, −0.5]. With rows and columns 2 and 3 exchanged: 5, place 2
     ∷ solves (thirdPivot arrow) (negℤ (pos 7500000) ∷ negℤ (pos 500000) ∷ [])
     ∷ stops (overA tridiagonal 6) 5 2
+    -- B, b of the program's input, start [0, 10] twice, 3 allowed: [3, 4.25], [1.5, 2.125], 9, count 3
+    ∷ sweeps input 3 startsWide
+    (record { number = 9; place = 0; count = 3; bounds = numbers (ends (pos 3000000) (pos 4250000) ∷ ends (pos 1500000) (pos 2125000) ∷ []) })
+    -- The same, start [5, 6], [0, 1]: 7, place 1, count 0
+    ∷ sweeps input 3 startsApart (record { number = 7; place = 1; count = 0; bounds = startsApart })
     ∷ []
 
 -- the one claim: each line's calculation is what the paper lists

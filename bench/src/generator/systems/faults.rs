@@ -82,16 +82,19 @@ pub fn resize(slice: &mut Vec<i64>, length: usize) {
     slice.resize(length, last);
 }
 
-/// Puts an interval at a position, counted through matrix and right side.
+/// Puts an interval at a position, counted through matrix, right side and box.
 pub fn set_interval(case: &mut Case, position: usize, interval: Interval) {
-    let matrix = case.matrix.len() / 2;
-    let (slice, index) = if position < matrix {
-        (&mut case.matrix, position)
-    } else {
-        (&mut case.right_side, position - matrix)
-    };
-    slice[2 * index] = interval.lo;
-    slice[2 * index + 1] = interval.hi;
+    let mut index = position;
+    for slice in [&mut case.matrix, &mut case.right_side, &mut case.bounds] {
+        let count = slice.len() / 2;
+        if index < count {
+            slice[2 * index] = interval.lo;
+            slice[2 * index + 1] = interval.hi;
+            return;
+        }
+        index -= count;
+    }
+    panic!("there is no position {position}");
 }
 
 pub fn faulty_sizes() -> impl Iterator<Item = Case> {

@@ -1,11 +1,11 @@
 //! Systems for the elimination calls.
 
-mod balance;
+pub(super) mod balance;
 mod boxes;
 mod cases;
 mod edges;
-mod faults;
-mod matrices;
+pub(super) mod faults;
+pub(super) mod matrices;
 mod small;
 mod spots;
 mod steering;

@@ -1,0 +1,141 @@
+//! The edge lists of sweep calls, always the same.
+
+use super::{faults, lent, slow, small};
+use crate::list::{Solution, SweepList};
+use crate::reference::{Interval, System, LIMIT};
+use crate::samples::sweeps as samples;
+
+const ONE: i64 = 1_000_000;
+const ZERO: Interval = Interval::point(0);
+
+/// Every edge list.
+pub fn edge_lists() -> impl Iterator<Item = SweepList> {
+    let sampled = samples::all().into_iter();
+    sampled
+        .map(|sample| SweepList::new(sample.case, &[sample.allowed, 1]))
+        .chain(solved())
+        .chain(faults::sizes())
+        .chain(faults::lengths())
+        .chain(faults::allowances())
+        .chain(faults::ends())
+        .chain(faults::two_ends())
+        .chain(small::one_vat())
+        .chain(far_sums())
+        .chain(chains())
+        .chain(touching())
+        .chain(small::awkward_numbers())
+        .chain(slow::lists())
+        .chain(small::two_vats())
+}
+
+/// The program's input and both ends of its solutions.
+fn solved() -> impl Iterator<Item = SweepList> {
+    let sample = samples::program_input([0, 10 * ONE, 0, 10 * ONE]);
+    let solutions = [[4_000_000, 2_000_000], [3_000_000, 1_500_000]];
+    solutions.into_iter().map(move |weights| SweepList {
+        lent: sample.clone(),
+        allowed: vec![1, 0, 1, 10_001, 3, 100, 1],
+        solution: Some(Solution {
+            numerators: weights.to_vec(),
+            denominator: 1,
+        }),
+    })
+}
+
+fn zeros(n: usize) -> System {
+    System::new(n, vec![ZERO; n * n], vec![ZERO; n])
+}
+
+/// Each vat gets all from its neighbour. From the vat before, one sweep is
+/// enough; from the vat after, every sweep takes one vat further.
+fn chains() -> impl Iterator<Item = SweepList> {
+    (1..=32).flat_map(|n: usize| {
+        let widest = vec![Interval::new(-LIMIT, LIMIT); n];
+        let both = [chain(n, true), chain(n, false)];
+        both.into_iter().flat_map(move |balance| {
+            let case = lent(&balance, &widest);
+            let lists = [
+                vec![1, 1, 1],
+                vec![n],
+                vec![n + 1],
+                vec![n.max(2) - 1, 0, 2, 9],
+            ];
+            lists.map(|allowed| SweepList::new(case.clone(), &allowed))
+        })
+    })
+}
+
+fn chain(n: usize, forwards: bool) -> System {
+    let mut balance = zeros(n);
+    let first = if forwards { 1 } else { n };
+    balance.set_f(first, Interval::new(5, 7));
+    for i in (1..=n).filter(|i| *i != first) {
+        let from = if forwards { i - 1 } else { i + 1 };
+        balance.set_a(i, from, Interval::point(ONE));
+    }
+    balance
+}
+
+/// Without shares. One vat's delivery meets its start in one unit, or misses
+/// it by one; all others are narrowed.
+fn touching() -> impl Iterator<Item = SweepList> {
+    let places = (1..=32).flat_map(|n: usize| {
+        let vats = (1..=n).filter(move |vat| n <= 8 || n == 32 || *vat == n);
+        vats.map(move |vat| (n, vat))
+    });
+    places.flat_map(|(n, vat)| {
+        let deliveries = [
+            Interval::point(20),
+            Interval::point(21),
+            Interval::new(20, 40),
+            Interval::new(21, 40),
+            Interval::point(10),
+            Interval::point(9),
+            Interval::new(-40, 10),
+            Interval::new(-40, 9),
+        ];
+        deliveries.map(|delivery| {
+            let mut balance = zeros(n);
+            (1..=n).for_each(|i| balance.set_f(i, Interval::new(12, 15)));
+            balance.set_f(vat, delivery);
+            let start = vec![Interval::new(10, 20); n];
+            SweepList::new(lent(&balance, &start), &[1, 2])
+        })
+    })
+}
+
+/// Sums and partial sums far out of the range, which take each other away or
+/// do not.
+fn far_sums() -> impl Iterator<Item = SweepList> {
+    let sizes = [1, 2, 3, 4, 31, 32].into_iter();
+    let every = sizes.flat_map(|n| (0..24).map(move |code| (n, code)));
+    every.map(|(n, code)| {
+        let far = [LIMIT, -LIMIT][code % 2];
+        let step = [0, 1, 2][code / 2 % 3];
+        let width = [0, 1, 2_000, LIMIT][code / 6];
+        let mut balance = zeros(n);
+        balance.set_f(1, Interval::point(far));
+        balance.set_a(1, 1, Interval::new(step - 1, step));
+        for j in 2..=n {
+            let sign = if j % 2 == 0 { 1 } else { -1 };
+            balance.set_a(1, j, Interval::point(sign * LIMIT));
+            balance.set_f(j, Interval::point(far));
+        }
+        let [low, high] = [far, far - far.signum() * width];
+        let start = vec![Interval::new(low.min(high), low.max(high)); n];
+        SweepList::new(lent(&balance, &start), &[1, 3])
+    })
+}
+
+#[cfg(test)]
+mod tests {
+    use super::*;
+    use crate::comparison::sweeps::compare_sweeps;
+    use crate::list::reference_sweep;
+
+    #[test]
+    fn edge_lists_reach_everything() {
+        let tally = compare_sweeps(edge_lists(), u64::MAX, reference_sweep).unwrap();
+        assert_eq!(tally.unreached(), [], "{}", tally.report());
+    }
+}

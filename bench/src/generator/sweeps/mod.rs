@@ -1,0 +1,25 @@
+//! Lists of sweep calls.
+
+mod allowances;
+mod balances;
+mod edges;
+mod faults;
+mod lists;
+mod slow;
+mod small;
+mod solved;
+mod starts;
+
+pub use edges::edge_lists;
+pub use lists::{random_lists, random_lists_up_to};
+
+use crate::case::Case;
+use crate::reference::{laid_flat, Interval, System};
+
+/// A balance lent with a start box.
+fn lent(balance: &System, start: &[Interval]) -> Case {
+    Case {
+        bounds: laid_flat(start),
+        ..Case::new(balance)
+    }
+}

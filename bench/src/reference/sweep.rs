@@ -1,0 +1,216 @@
+//! The sweep call of document 01, written from its words alone.
+
+use super::interval::{rounded_product, Interval, WideInterval};
+use super::numbers::{DONE, EMPTY, FAULTY_ALLOWANCE, SPENT};
+use super::outcome::{Outcome, Stop};
+use super::system::{intervals, laid_flat, test_ends, test_lengths, test_size, System};
+
+/// The greatest number of sweeps that may be allowed.
+pub const MOST_SWEEPS: usize = 10_000;
+
+/// How a sweep call ended. Counts are those of whole sweeps.
+#[derive(Clone, Debug, PartialEq, Eq)]
+pub enum SweepEnd {
+    /// By the test of size, lengths or ends.
+    Refused(Stop),
+    /// By the test of the sweeps allowed.
+    Allowance,
+    /// The vat is counted from 1.
+    Empty {
+        vat: usize,
+        count: u64,
+    },
+    Settled {
+        count: u64,
+        bounds: Vec<Interval>,
+    },
+    Spent {
+        count: u64,
+        bounds: Vec<Interval>,
+    },
+}
+
+/// Sweeps x = B·x + b over the start box.
+pub fn sweep(n: usize, b_matrix: &[i64], b: &[i64], bounds: &mut [i64], allowed: usize) -> Outcome {
+    sweep_end(n, b_matrix, b, bounds, allowed).finish(bounds)
+}
+
+/// One call with all that can be known of it.
+pub fn sweep_end(n: usize, b_matrix: &[i64], b: &[i64], start: &[i64], allowed: usize) -> SweepEnd {
+    match read(n, [b_matrix, b, start], allowed) {
+        Ok((balance, start)) => sweeps(&balance, start, allowed),
+        Err(end) => end,
+    }
+}
+
+/// Copies the lent numbers once they have passed every test, in the sequence
+/// 1, 2, 4, 3.
+fn read(n: usize, lent: [&[i64]; 3], allowed: usize) -> Result<(System, Vec<Interval>), SweepEnd> {
+    test_size(n)?;
+    test_lengths(n, lent.map(<[i64]>::len))?;
+    test_allowed(allowed)?;
+    let [matrix, right_side, start] = lent.map(intervals);
+    test_ends(matrix.iter().chain(&right_side).chain(&start))?;
+    Ok((System::new(n, matrix, right_side), start))
+}
+
+fn test_allowed(allowed: usize) -> Result<(), SweepEnd> {
+    if allowed == 0 || allowed > MOST_SWEEPS {
+        Err(SweepEnd::Allowance)
+    } else {
+        Ok(())
+    }
+}
+
+/// The calculation on intervals that have passed every test.
+pub fn sweeps(balance: &System, start: Vec<Interval>, allowed: usize) -> SweepEnd {
+    let mut x = start;
+    let mut whole = 0;
+    while whole < allowed {
+        let before = x.clone();
+        if let Err(vat) = sweep_once(balance, &mut x) {
+            let count = whole as u64;
+            return SweepEnd::Empty { vat, count };
+        }
+        whole += 1;
+        if x == before {
+            let count = whole as u64;
+            return SweepEnd::Settled { count, bounds: x };
+        }
+    }
+    let count = whole as u64;
+    SweepEnd::Spent { count, bounds: x }
+}
+
+/// The vat is given back if its intersection is empty. Before vat i everything
+/// in `x` is new, from i on everything is old.
+fn sweep_once(balance: &System, x: &mut [Interval]) -> Result<(), usize> {
+    for i in 1..=balance.size() {
+        let sum = right_hand(balance, x, i);
+        x[i - 1] = intersection(sum, x[i - 1]).ok_or(i)?;
+    }
+    Ok(())
+}
+
+/// b(i) and all B(i,j)·X(j), each product rounded by itself, added exactly.
+pub fn right_hand(balance: &System, x: &[Interval], i: usize) -> WideInterval {
+    let columns = 1..=balance.size();
+    let products = columns.map(|j| rounded_product(balance.a(i, j), x[j - 1]));
+    let start = WideInterval::from(balance.f(i));
+    products.fold(start, |sum, product| sum + product)
+}
+
+/// Nothing if the two do not meet. Otherwise both ends lie in the old interval
+/// and therefore in the range.
+fn intersection(sum: WideInterval, old: Interval) -> Option<Interval> {
+    let old = WideInterval::from(old);
+    let (lo, hi) = (sum.lo.max(old.lo), sum.hi.min(old.hi));
+    (lo <= hi).then(|| Interval::new(lo as i64, hi as i64))
+}
+
+impl From<Stop> for SweepEnd {
+    fn from(stop: Stop) -> SweepEnd {
+        SweepEnd::Refused(stop)
+    }
+}
+
+impl SweepEnd {
+    pub fn outcome(&self) -> Outcome {
+        match *self {
+            SweepEnd::Refused(stop) => stop.into(),
+            SweepEnd::Allowance => Outcome::new(FAULTY_ALLOWANCE, 0),
+            SweepEnd::Empty { vat, count } => Outcome::counted(EMPTY, vat as u64, count),
+            SweepEnd::Settled { count, .. } => Outcome::counted(DONE, 0, count),
+            SweepEnd::Spent { count, .. } => Outcome::counted(SPENT, 0, count),
+        }
+    }
+
+    /// The last box, unless the call was refused.
+    pub fn bounds(&self) -> Option<&[Interval]> {
+        match self {
+            SweepEnd::Settled { bounds, .. } | SweepEnd::Spent { bounds, .. } => Some(bounds),
+            _ => None,
+        }
+    }
+
+    /// Writes the last box over the start box, unless the call was refused.
+    pub fn finish(&self, bounds: &mut [i64]) -> Outcome {
+        if let Some(last) = self.bounds() {
+            bounds.copy_from_slice(&laid_flat(last));
+        }
+        self.outcome()
+    }
+}
+
+#[cfg(test)]
+mod tests {
+    use super::*;
+
+    const ONE: i64 = 1_000_000;
+
+    fn outcome(number: u64, place: u64, count: u64) -> Outcome {
+        Outcome::counted(number, place, count)
+    }
+
+    /// Half of 1 to 3 units is 0 to 2 in whole units outwards, half of what
+    /// is left then 0 to 1.
+    #[test]
+    fn products_are_rounded_outward() {
+        let half = [500_000, 500_000];
+        let mut bounds = [1, 3];
+        let settled = sweep(1, &half, &[0, 0], &mut bounds, 5);
+        assert_eq!((settled, bounds), (outcome(0, 0, 3), [1, 1]));
+    }
+
+    /// The upper end falls by one unit in each sweep until 999,999.
+    #[test]
+    fn the_last_sweep_changes_nothing_and_is_counted() {
+        let share = [999_999, 999_999];
+        let run = |allowed| {
+            let mut bounds = [0, ONE + 2];
+            let outcome = sweep(1, &share, &[0, 0], &mut bounds, allowed);
+            (outcome, bounds[1])
+        };
+        assert_eq!(run(1), (outcome(9, 0, 1), ONE + 1));
+        assert_eq!(run(3), (outcome(9, 0, 3), ONE - 1));
+        assert_eq!(run(4), (outcome(0, 0, 4), ONE - 1));
+        assert_eq!(run(10_000), (outcome(0, 0, 4), ONE - 1));
+    }
+
+    /// The lower end rises by one unit in each sweep.
+    #[test]
+    fn an_empty_intersection_leaves_the_start_box() {
+        let one = [ONE, ONE];
+        let mut bounds = [0, 2];
+        let empty = sweep(1, &one, &[1, 1], &mut bounds, 10);
+        assert_eq!((empty, bounds), (outcome(7, 1, 2), [0, 2]));
+        let spent = sweep(1, &one, &[1, 1], &mut bounds, 2);
+        assert_eq!((spent, bounds), (outcome(9, 0, 2), [2, 2]));
+    }
+
+    #[test]
+    fn the_sum_has_no_range_test() {
+        let far = 2_000 * ONE;
+        let mut bounds = [-far, far];
+        let settled = sweep(1, &[-far, far], &[far, far], &mut bounds, 1);
+        assert_eq!((settled, bounds), (outcome(0, 0, 1), [-far, far]));
+        let empty = sweep(1, &[1, 1], &[far, far], &mut [far, far], 1);
+        assert_eq!(empty, outcome(7, 1, 0));
+    }
+
+    #[test]
+    fn tests_run_in_the_sequence_1_2_4_3() {
+        let run = |n, ends: &[i64], allowed| {
+            let mut bounds = [1, 0];
+            let refused = sweep(n, ends, &[0, 0], &mut bounds, allowed);
+            assert_eq!(bounds, [1, 0]);
+            (refused.number, refused.place, refused.count)
+        };
+        assert_eq!(run(0, &[2, 1, 0], 0), (1, 0, 0));
+        assert_eq!(run(1, &[2, 1, 0], 0), (2, 1, 0));
+        assert_eq!(run(1, &[2, 1], 0), (4, 0, 0));
+        assert_eq!(run(1, &[2, 1], 10_001), (4, 0, 0));
+        assert_eq!(run(1, &[2, 1], 1), (3, 0, 0));
+        assert_eq!(run(1, &[1, 2], 10_000), (3, 2, 0));
+    }
+}

@@ -1,0 +1,21 @@
+use borrow.Author.Needs.{needs}
+use mathlib.Core.Path.{_∙_}
+use Rattle.capi.proofs.systems.kifwaleb_sweep.Statement.{statement}
+use Rattle.capi.proofs.systems.kifwaleb_sweep.Tie as tie
+
+sweep-requires : tie.Need-sweep-requires
+sweep-requires c κs = search needs
+
+counted-requires : tie.Need-counted-requires
+counted-requires c κs = search needs
+
+same-length : tie.Need-same-length
+same-length c = search needs
+
+returns : tie.Need-returns
+returns c =
+    let e = c .before .before .sweep .ensures in
+    (c .counted .ensures .0 ∙ e .0, (c .counted .ensures .1 ∙ e .1 .0, e .1 .1))
+
+pub kifwaleb-sweep-spec : {M : Type 1} → statement M
+kifwaleb-sweep-spec = tie.close (tie.spec sweep-requires counted-requires same-length returns)
