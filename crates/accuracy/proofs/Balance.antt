@@ -23,35 +23,35 @@ use Rattle.accuracy.proofs.Row.{dot, Row, Holds, Met, dot-difference}
 use Rattle.accuracy.proofs.Sum.{parts, sum-same}
 use Rattle.accuracy.proofs.Unit.{wholes, unit-inside, dot-unit}
 
--- ---- one row: the shares and the delivery over one denominator
-module _ (n : ℕ) (share : ℕ → Fraction) (delivery : Fraction) where
-  shares : Common n share
-  shares = common n share
+-- ---- one row: the shares and the constant over one denominator
+module _ (n : ℕ) (coefficient : ℕ → Fraction) (constant : Fraction) where
+  shares : Common n coefficient
+  shares = common n coefficient
 
   abbrev den : ℤ
-  den = shares .den *ℤ delivery .den
+  den = shares .den *ℤ constant .den
 
   abbrev den-above : pos 0 <ℤ den
-  den-above = both-pos (shares .den) (delivery .den) (shares .above) (delivery .above)
+  den-above = both-pos (shares .den) (constant .den) (shares .above) (constant .above)
 
   abbrev over-den : ℕ → ℤ
-  over-den j = shares .num j *ℤ delivery .den
+  over-den j = shares .num j *ℤ constant .den
 
   abbrev delivered : ℤ
-  delivered = delivery .num *ℤ shares .den
+  delivered = constant .num *ℤ shares .den
 
-  share-same : (j : ℕ) → j < n → Same (ratio (over-den j) den den-above) (share j)
-  share-same j h = widen-same (delivery .den) (delivery .above) (shares .same j h)
+  coefficient-same : (j : ℕ) → j < n → Same (ratio (over-den j) den den-above) (coefficient j)
+  coefficient-same j h = widen-same (constant .den) (constant .above) (shares .same j h)
 
-  delivered-same : Same (ratio delivered den den-above) delivery
-  delivered-same = own-same (shares .den) (shares .above) delivery
+  delivered-same : Same (ratio delivered den den-above) constant
+  delivered-same = own-same (shares .den) (shares .above) constant
 
   -- row i of I − B
   pub rowOf : ℕ → Row
   rowOf i = record { left = λ j. den *ℤ scale *ℤ wholes i j -ℤ pos 1 *ℤ over-den j; right = delivered; den = den }
 
   pub row-holds : (t B b : List ℤ) (i : ℕ) → ((j : ℕ) → j < n → at t (cell n i j) ≡ exactDifference (unit i j) (at B (cell n i j))) → at t (rhs n i) ≡ at b i →
-      ((j : ℕ) → j < n → Inside (at B (cell n i j)) (share j)) → Inside (at b i) delivery → Holds n t i 0 (rowOf i)
+      ((j : ℕ) → j < n → Inside (at B (cell n i j)) (coefficient j)) → Inside (at b i) constant → Holds n t i 0 (rowOf i)
   unfolding rowOf difference
   row-holds t B b i f g h k =
       record {
@@ -59,7 +59,7 @@ module _ (n : ℕ) (share : ℕ → Fraction) (delivery : Fraction) where
         cells = λ j u v.
             rw (f j v)
             (inside-same (record { holds = exact den scale (wholes i j) (over-den j) })
-            (difference-inside (unit-inside i j) (inside-same (same-sym (share-same j v)) (h j v))));
+            (difference-inside (unit-inside i j) (inside-same (same-sym (coefficient-same j v)) (h j v))));
         right = rw g (inside-same (same-sym delivered-same) k);
       }
     where
@@ -78,8 +78,8 @@ module _ (n : ℕ) (share : ℕ → Fraction) (delivery : Fraction) where
     total = dot over-den (weights .num) n 0
 
     -- b(i) and the sum of all B(i,j)·x(j)
-    total-same : Same (parts (side +ℤ total) den (weights .den) den-above (weights .above)) (exactRow share x n 0 delivery)
-    total-same = sum-same share-same (weights .same) n 0 {u = side} (zero-add n) (same-trans (record { holds = exact scale delivered (weights .den) den }) delivered-same)
+    total-same : Same (parts (side +ℤ total) den (weights .den) den-above (weights .above)) (exactRow coefficient x n 0 constant)
+    total-same = sum-same coefficient-same (weights .same) n 0 {u = side} (zero-add n) (same-trans (record { holds = exact scale delivered (weights .den) den }) delivered-same)
       where
         exact : (s g q m : ℤ) → (s *ℤ (g *ℤ q)) *ℤ m ≡ g *ℤ (m *ℤ q *ℤ s)
         exact = over 4 _ (λ ρ. simp reading (ring _ _ _ tt))
@@ -93,7 +93,7 @@ module _ (n : ℕ) (share : ℕ → Fraction) (delivery : Fraction) where
     weigh : (w m q s : ℤ) → w *ℤ (m *ℤ q *ℤ s) ≡ (m *ℤ s *ℤ w) *ℤ q
     weigh = over 4 _ (λ ρ. simp reading (ring _ _ _ tt))
 
-    to-met : Same (x i) (exactRow share x n 0 delivery) → Met n 0 (rowOf i) (common n x .num) (common n x .den)
+    to-met : Same (x i) (exactRow coefficient x n 0 constant) → Met n 0 (rowOf i) (common n x .num) (common n x .den)
     unfolding rowOf
     to-met e = record { exact = λ d l. let f : d ≡ n = omega arith in rw f (row-sum ∙ move _ _ _ whole) }
       where
@@ -105,7 +105,7 @@ module _ (n : ℕ) (share : ℕ → Fraction) (delivery : Fraction) where
             cancel-same _ _ (weights .den) (weights .above)
             (sym (weigh (weights .num i) den (weights .den) scale) ∙ same-trans (weights .same i h) (same-trans e (same-sym total-same)) .holds)
 
-    from-met : Met n 0 (rowOf i) (common n x .num) (common n x .den) → Same (x i) (exactRow share x n 0 delivery)
+    from-met : Met n 0 (rowOf i) (common n x .num) (common n x .den) → Same (x i) (exactRow coefficient x n 0 constant)
     unfolding rowOf
     from-met m = same-trans (same-sym (weights .same i h)) (same-trans same total-same)
       where
@@ -116,5 +116,5 @@ module _ (n : ℕ) (share : ℕ → Fraction) (delivery : Fraction) where
         same = record { holds = weigh (weights .num i) den (weights .den) scale ∙ ap (λ z. z *ℤ weights .den) (move (den *ℤ scale *ℤ weights .num i) total side (sym row-sum ∙ m .exact n (zero-add n))) }
 
     -- row i of the balance, and row i of A·x = f
-    pub balance-met : Same (x i) (exactRow share x n 0 delivery) ↔ Met n 0 (rowOf i) (common n x .num) (common n x .den)
+    pub balance-met : Same (x i) (exactRow coefficient x n 0 constant) ↔ Met n 0 (rowOf i) (common n x .num) (common n x .den)
     balance-met = (to-met, from-met)

@@ -60,10 +60,10 @@ module _ (sum : RowSum) (encloses : Encloses sum) (s : System) (t X : List ℤ) 
         each = λ j h.
             inside-same (w .same j h)
             (solved-inside sum encloses (s .size) t X room run
-            (λ i. rowOf (s .size) (c .share i) (c .delivery i) i)
-            (λ i l. row-holds (s .size) (c .share i) (c .delivery i) t (s .matrix) (s .right) i (λ j k. cells i j l k) (right i l) (λ j k. c .share-in i j l k) (c .delivery-in i l))
+            (λ i. rowOf (s .size) (c .coefficient i) (c .constant i) i)
+            (λ i l. row-holds (s .size) (c .coefficient i) (c .constant i) t (s .matrix) (s .right) i (λ j k. cells i j l k) (right i l) (λ j k. c .coefficient-in i j l k) (c .constant-in i l))
             (w .num) (w .den) (w .above)
-            (λ i l. balance-met (s .size) (c .share i) (c .delivery i) x i l .0 (sol .meets .row i l))
+            (λ i l. balance-met (s .size) (c .coefficient i) (c .constant i) x i l .0 (sol .meets .row i l))
             j h);
       }
 

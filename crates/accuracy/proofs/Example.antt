@@ -13,25 +13,25 @@ use Rattle.elimination.specs.Unit.{unit}
 use Rattle.accuracy.specs.Solution.{numbers, balanceOf}
 use Rattle.accuracy.specs.Beside.{fifth, weight, Example}
 
--- the share is 1 − 4/3
-abbrev share : Fraction
-share = record { num = negsuc 999999; den = pos 3; above = ltZ-yes tt }
+-- the coefficient is 1 − 4/3
+abbrev coefficient : Fraction
+coefficient = record { num = negsuc 999999; den = pos 3; above = ltZ-yes tt }
 
-abbrev delivery : Fraction
-delivery = record { num = pos 9000000; den = pos 7; above = ltZ-yes tt }
+abbrev constant : Fraction
+constant = record { num = pos 9000000; den = pos 7; above = ltZ-yes tt }
 
-share-in : (i j : ℕ) → i < 1 → j < 1 → Inside (at (balanceOf fifth .matrix) (cell 1 i j)) share
+coefficient-in : (i j : ℕ) → i < 1 → j < 1 → Inside (at (balanceOf fifth .matrix) (cell 1 i j)) coefficient
 unfolding balanceOf numbers at exactDifference unit scale
-share-in zero zero h k = record { low = leZ-yes tt; high = leZ-yes tt }
-share-in zero (suc j) h k = absurd (omega arith)
-share-in (suc i) j h k = absurd (omega arith)
+coefficient-in zero zero h k = record { low = leZ-yes tt; high = leZ-yes tt }
+coefficient-in zero (suc j) h k = absurd (omega arith)
+coefficient-in (suc i) j h k = absurd (omega arith)
 
-delivery-in : (i : ℕ) → i < 1 → Inside (at (balanceOf fifth .right) i) delivery
+constant-in : (i : ℕ) → i < 1 → Inside (at (balanceOf fifth .right) i) constant
 unfolding balanceOf at
-delivery-in zero h = record { low = leZ-yes tt; high = leZ-yes tt }
-delivery-in (suc i) h = absurd (omega arith)
+constant-in zero h = record { low = leZ-yes tt; high = leZ-yes tt }
+constant-in (suc i) h = absurd (omega arith)
 
-row : Same weight (exactRow (λ j. share) (λ j. weight) 1 0 delivery)
+row : Same weight (exactRow (λ j. coefficient) (λ j. weight) 1 0 constant)
 unfolding exactRow sum productAt scale
 row = record { holds = refl }
 
@@ -40,7 +40,7 @@ unfolding balanceOf
 example =
     record {
       solves = record {
-        choice = record { share = λ i j. share; delivery = λ i. delivery; share-in = share-in; delivery-in = delivery-in };
+        choice = record { coefficient = λ i j. coefficient; constant = λ i. constant; coefficient-in = coefficient-in; constant-in = constant-in };
         meets = record { row = λ i h. row };
       };
       in-box = record { low = leZ-yes tt; high = leZ-yes tt };

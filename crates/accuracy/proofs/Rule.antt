@@ -12,7 +12,7 @@ use Rattle.inputs.specs.Place.{at}
 use Rattle.inputs.specs.Tests.{System}
 use Rattle.sweep.specs.Calls.{Call, changes}
 use Rattle.accuracy.specs.Solution.{Solution, InBox, balanceOf}
-use Rattle.accuracy.specs.Claim.{Start, lent, fromB, fromA, Meant, OffBy, width, Held, Accuracy}
+use Rattle.accuracy.specs.Claim.{Start, lent, fromB, fromA, Covered, OffBy, width, Bounded, Accuracy}
 use Rattle.accuracy.proofs.Elimination.{over-A, over-B}
 use Rattle.accuracy.proofs.Follows.{follows-refl}
 use Rattle.accuracy.proofs.Calls.{every-map, list-changes, list-empty}
@@ -28,11 +28,11 @@ off-by {v} {a} {y} h k =
     go : (l u p q r t : ℤ) → pos 0 <ℤ q → pos 0 <ℤ t → (l *ℤ q) ≤ℤ p → r ≤ℤ (u *ℤ t) → (r *ℤ q -ℤ p *ℤ t) ≤ℤ ((u -ℤ l) *ℤ (q *ℤ t))
     go = over 6 _ (λ ρ m n h k. also (prod h (lt-le n)) (also (prod k (lt-le m)) (simp (linear, ρ) (omega arith))))
 
-held : {n : ℕ} {X : List ℤ} {x : ℕ → Fraction} → InBox n X x → Held n X x
+held : {n : ℕ} {X : List ℤ} {x : ℕ → Fraction} → InBox n X x → Bounded n X x
 held h = record { inside = h; close = λ j k y i. off-by (h .each j k) i }
 
 -- ---- the box that a list begins with
-begins : (s : System) (X : List ℤ) (start : Start s X) (x : ℕ → Fraction) → Solution s x → Meant start x → InBox (s .size) X x
+begins : (s : System) (X : List ℤ) (start : Start s X) (x : ℕ → Fraction) → Solution s x → Covered start x → InBox (s .size) X x
 unfolding balanceOf
 begins s X lent x sol m = m
 begins s X (fromB l e) x sol m = over-B s l X e x sol
@@ -42,8 +42,8 @@ pub accuracy : (s : System) (X : List ℤ) (start : Start s X) (calls : List Cal
 accuracy s X start calls =
     let fine = list-changes s calls (follows-refl s X) in
     record {
-      held-at-start = λ x sol m. held (begins s X start x sol m);
-      held-after = λ x sol m. every-map (λ c f. held (f .since-start .keeps x sol (begins s X start x sol m))) (changes s calls X) fine;
+      bounded-at-start = λ x sol m. held (begins s X start x sol m);
+      bounded-after = λ x sol m. every-map (λ c f. held (f .since-start .keeps x sol (begins s X start x sol m))) (changes s calls X) fine;
       empty-only = list-empty s calls (follows-refl s X);
       never-wider = every-map (λ c f. f .this-step .narrowed) (changes s calls X) fine;
     }

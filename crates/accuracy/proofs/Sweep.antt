@@ -29,7 +29,7 @@ use Rattle.accuracy.specs.Solution.{Solution, InBox}
 use Rattle.accuracy.proofs.Common.{same-trans}
 use Rattle.accuracy.proofs.Follows.{contains-refl, Follows, follows-refl, follows-trans, earlier, OnPass, Faithful}
 
--- ---- a solution's row begins with its delivery, a row sum with nought: what begins with b + a is b and what begins with a
+-- ---- a solution's row begins with its constant, a row sum with nought: what begins with b + a is b and what begins with a
 sum-on : (b a p : Fraction) {c : Fraction} → Same c (sum b a) → Same (sum c p) (sum b (sum a p))
 unfolding sum
 sum-on b a p {c} e =
@@ -75,9 +75,9 @@ module _ (sum : RowSum) (encloses : Encloses sum) (s : System) where
   component-inside X i h x sol k =
       let c = sol .choice in
       intersection-inside
-      (inside-same (same-sym (same-trans (sol .meets .row i h) (row-from (c .share i) x (s .size) 0 (c .delivery i) nought (and-nought (c .delivery i)))))
-      (sum-inside (c .delivery-in i h)
-      (encloses .holds (s .matrix) (i * s .size) X 0 (s .size) (c .share i) x (λ j l. c .share-in i j h l) (λ j l. rw (zero-add j) (k .each j l)))))
+      (inside-same (same-sym (same-trans (sol .meets .row i h) (row-from (c .coefficient i) x (s .size) 0 (c .constant i) nought (and-nought (c .constant i)))))
+      (sum-inside (c .constant-in i h)
+      (encloses .holds (s .matrix) (i * s .size) X 0 (s .size) (c .coefficient i) x (λ j l. c .coefficient-in i j h l) (λ j l. rw (zero-add j) (k .each j l)))))
       (k .each i h)
 
   component-narrows : (X : List ℤ) (i : ℕ) → Contains (at X i) (component sum s X i)

@@ -22,10 +22,10 @@ pub data Start (s : System) (X : List ℤ) : Type 0 where
   fromA : (a : System) (boxLength : ℕ) → s ≡ balanceOf a → overA a boxLength ≡ done X → Start s X
 
 -- the solutions that the rule speaks of: those in a box that the caller lends, and all after an elimination
-abbrev pub Meant : {s : System} {X : List ℤ} → Start s X → (ℕ → Fraction) → Type 0
-Meant {s} {X} lent x = InBox (s .size) X x
-Meant (fromB l e) x = Unit {0}
-Meant (fromA a l f e) x = Unit {0}
+abbrev pub Covered : {s : System} {X : List ℤ} → Start s X → (ℕ → Fraction) → Type 0
+Covered {s} {X} lent x = InBox (s .size) X x
+Covered (fromB l e) x = Unit {0}
+Covered (fromA a l f e) x = Unit {0}
 
 -- a and y are apart by at most w units
 pub record OffBy (w : ℤ) (a y : Fraction) : Type 0 where
@@ -37,7 +37,7 @@ abbrev pub width : Interval → ℤ
 width v = v .hi -ℤ v .lo
 
 -- the weights lie in the box, and any figure inside the bounds of one is off from it by at most their width
-pub record Held (n : ℕ) (X : List ℤ) (x : ℕ → Fraction) : Type 0 where
+pub record Bounded (n : ℕ) (X : List ℤ) (x : ℕ → Fraction) : Type 0 where
   pub inside : InBox n X x
   pub close : (j : ℕ) → j < n → (y : Fraction) → Inside (at X j) y → OffBy (width (at X j)) (x j) y
 
@@ -52,8 +52,8 @@ Every P (c ∷ cs) = P c × Every P cs
 -- the rule, for a system, a box to begin with, and any list of calls
 pub record Accuracy (s : System) (X : List ℤ) (start : Start s X) (calls : List Call) : Type 0 where
   -- every solution lies within the bounds at the start, after every whole sweep and after every call
-  pub held-at-start : (x : ℕ → Fraction) → Solution s x → Meant start x → Held (s .size) X x
-  pub held-after : (x : ℕ → Fraction) → Solution s x → Meant start x → Every (λ c. Held (s .size) (c .after) x) (changes s calls X)
+  pub bounded-at-start : (x : ℕ → Fraction) → Solution s x → Covered start x → Bounded (s .size) X x
+  pub bounded-after : (x : ℕ → Fraction) → Solution s x → Covered start x → Every (λ c. Bounded (s .size) (c .after) x) (changes s calls X)
   -- 'empty' is said only if no solution lies in the box that the list began with
   pub empty-only : T (anyEmpty s calls X) → (x : ℕ → Fraction) → Solution s x → InBox (s .size) X x → ⊥
   -- no sweep and no call widens a bound

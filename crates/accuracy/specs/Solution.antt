@@ -13,14 +13,14 @@ use Rattle.elimination.specs.Unit.{unit}
 
 -- 'some choice of exact fractions inside the bounds of B and b', for a system that holds B and b
 pub record Choice (s : System) : Type 0 where
-  pub share : (i j : ℕ) → Fraction
-  pub delivery : (i : ℕ) → Fraction
-  pub share-in : (i j : ℕ) → i < s .size → j < s .size → Inside (at (s .matrix) (cell (s .size) i j)) (share i j)
-  pub delivery-in : (i : ℕ) → i < s .size → Inside (at (s .right) i) (delivery i)
+  pub coefficient : (i j : ℕ) → Fraction
+  pub constant : (i : ℕ) → Fraction
+  pub coefficient-in : (i j : ℕ) → i < s .size → j < s .size → Inside (at (s .matrix) (cell (s .size) i j)) (coefficient i j)
+  pub constant-in : (i : ℕ) → i < s .size → Inside (at (s .right) i) (constant i)
 
 -- 'n exact fractions as weights that meet x = B·x + b', for that choice: row i says that x(i) is b(i) and the sum of all B(i,j)·x(j)
 pub record Meets (s : System) (c : Choice s) (x : ℕ → Fraction) : Type 0 where
-  pub row : (i : ℕ) → i < s .size → Same (x i) (exactRow (c .share i) x (s .size) 0 (c .delivery i))
+  pub row : (i : ℕ) → i < s .size → Same (x i) (exactRow (c .coefficient i) x (s .size) 0 (c .constant i))
 
 -- 'A solution is n exact fractions as weights that meet x = B·x + b for some choice'
 pub record Solution (s : System) (x : ℕ → Fraction) : Type 0 where
