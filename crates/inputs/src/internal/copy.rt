@@ -5,7 +5,7 @@ ghost use lib.ListN.{length, take, drop};
 ghost use lib.Seq.{paste};
 
 // Copies s into t from at on.
-fn fill(t: &mut [i64], s: &[i64], at: usize)
+pub fn fill(t: &mut [i64], s: &[i64], at: usize)
     requires { ⌜ at + length (now s) ≤ length (now t) ⌝ }
     ensures { λ _. ⌜ now (t .exit) ≡ paste (now (t .entry)) at (now (s .entry)) (length (now (s .entry))) ⌝ }
 {

@@ -1,0 +1,9 @@
+pub mod Field
+pub mod Handed
+pub mod Head
+pub mod Lines
+pub mod Spans
+pub mod Names
+pub mod Number
+pub mod Parts
+pub mod Values

@@ -1,0 +1,53 @@
+use mathlib.Core.Path.{_≡_, sym, ap, _∙_}
+use Prim.Native.Nat.{_+_, _*_}
+use borrow.Author.Needs.{needs}
+use lib.ListN.{take}
+use Rattle.text.specs.Number.{read}
+use Rattle.text.specs.Code.{readOf}
+use Rattle.text.proofs.Values.{placed, not-placed}
+use Rattle.text.proofs.internal.values.place_value.Statement.{statement}
+use Rattle.text.proofs.internal.values.place_value.Tie as tie
+use Rattle.text.proofs.internal.values.place_value.Reads as reads
+use Rattle.text.proofs.internal.values.place_value.Lts as lts
+use Rattle.inputs.proofs.internal.write.Reads as write-reads
+use Rattle.text.proofs.internal.values.value_of.Reads as value-of-reads
+
+value-of-requires : tie.Need-value-of-requires
+value-of-requires c κs = search needs
+
+enum-known-v : tie.Need-enum-known-v
+enum-known-v c = search needs
+
+write-requires : tie.Need-write-requires
+write-requires c κs = search needs
+
+enum-told : tie.Need-enum-told
+enum-told c = search needs
+
+same-length : tie.Need-same-length
+same-length c = search needs
+
+returns : tie.Need-returns
+returns c =
+    let w = c .before in
+    let k = w .before .before .before in
+    let a = w .before .before .before .before .before .before .before in
+    ap (λ t. read (take (2 * (a .args .p + 1)) t)) (w .write .ensures)
+    ∙ placed (a .args .t .now) (a .args .p) _ _ (a .pre) (ap readOf (sym (k .v .given .1)) ∙ k .before .before .value-of .ensures)
+
+returns-2 : tie.Need-returns-2
+returns-2 c =
+    let a = c .before .before .before .before in
+    not-placed (a .args .t .now) (a .args .p) _ (ap readOf (sym (c .enum-told .given .1)) ∙ c .before .before .value-of .ensures)
+
+pub place-value-spec : {M : Type 1} → statement M
+place-value-spec =
+    tie.close
+    (tie.spec
+    value-of-requires
+    enum-known-v
+    write-requires
+    enum-told
+    same-length
+    returns
+    returns-2)

@@ -1,0 +1,42 @@
+-- Where a byte is found in a list of bytes, and the parts between such bytes.
+use mathlib.Core.Bool.{Bool, true, false, cond}
+use mathlib.Core.List.{List, [], _∷_}
+use Prim.Native.Nat.{ℕ, zero, suc, _+_}
+use lib.Dec.{eqb}
+use lib.ListN.{length, drop}
+use Rattle.text.specs.declared.internal.search.Found.{Found}
+use Rattle.text.specs.declared.internal.search.Found.the-variants.{At, Nothing}
+
+abbrev pub pick : Bool → Found → Found → Found
+pick true a b = a
+pick false a b = b
+
+-- the first b in a list whose first byte has the place i
+unfoldable pub firstIn : List ℕ → (b i : ℕ) → Found
+firstIn [] b i = Nothing
+firstIn (x ∷ xs) b i = pick (eqb x b) (At i) (firstIn xs b (i + 1))
+
+-- the place of the first b in s, from a place on
+unfoldable pub firstFrom : List ℕ → (from b : ℕ) → Found
+firstFrom s from b = firstIn (drop from s) b from
+
+-- a byte more at the beginning of the first part
+unfoldable pub longer : ℕ → List (List ℕ) → List (List ℕ)
+longer x [] = (x ∷ []) ∷ []
+longer x (p ∷ ps) = (x ∷ p) ∷ ps
+
+-- the parts before, between and after the bytes b of a list: one more than there are b
+unfoldable pub parts : (b : ℕ) → List ℕ → List (List ℕ)
+parts b [] = [] ∷ []
+parts b (x ∷ xs) = cond (eqb x b) ([] ∷ parts b xs) (longer x (parts b xs))
+
+-- the part with the number k, from 0, and the place at which it starts: each part before it is followed by one byte b
+unfoldable pub part : List (List ℕ) → (k : ℕ) → List ℕ
+part [] k = []
+part (p ∷ ps) zero = p
+part (p ∷ ps) (suc k) = part ps k
+
+unfoldable pub startOf : List (List ℕ) → (k : ℕ) → ℕ
+startOf [] k = 0
+startOf (p ∷ ps) zero = 0
+startOf (p ∷ ps) (suc k) = length p + 1 + startOf ps k
