@@ -1,5 +1,6 @@
-//! What one elimination call is lent, and what it leaves behind.
+//! What one call over a system is lent, and what it leaves behind.
 
+use crate::guarded::Guarded;
 use crate::reference::{laid_flat, Outcome, System};
 
 /// The arguments of a call. The lengths need not fit the size.
@@ -23,22 +24,10 @@ pub struct Slices<'a> {
 #[derive(Clone, Debug, PartialEq, Eq)]
 pub struct Answer {
     pub outcome: Outcome,
-    pub matrix: Guarded,
-    pub right_side: Guarded,
-    pub bounds: Guarded,
+    pub matrix: Guarded<i64>,
+    pub right_side: Guarded<i64>,
+    pub bounds: Guarded<i64>,
 }
-
-/// Lent numbers between two rows of guards, which no call may touch.
-#[derive(Clone, Debug, PartialEq, Eq)]
-pub struct Guarded {
-    numbers: Vec<i64>,
-}
-
-/// As many guards as the longest box has numbers.
-const GUARDS: usize = 64;
-
-/// No end of an interval, and no number that a call would write by chance.
-const GUARD: i64 = 0x6b69_6677_616c_6562;
 
 impl Case {
     /// With a box of the right length that holds noughts.
@@ -89,32 +78,6 @@ impl Slices<'_> {
     }
 }
 
-impl Guarded {
-    fn new(lent: &[i64]) -> Guarded {
-        let mut numbers = vec![GUARD; lent.len() + 2 * GUARDS];
-        numbers[GUARDS..][..lent.len()].copy_from_slice(lent);
-        Guarded { numbers }
-    }
-
-    fn lent(&mut self) -> &mut [i64] {
-        let end = self.numbers.len() - GUARDS;
-        &mut self.numbers[GUARDS..end]
-    }
-
-    /// The lent numbers as they are now.
-    pub fn inside(&self) -> &[i64] {
-        let end = self.numbers.len() - GUARDS;
-        &self.numbers[GUARDS..end]
-    }
-
-    /// False if a call wrote past either end of its slice.
-    pub fn is_intact(&self) -> bool {
-        let (before, rest) = self.numbers.split_at(GUARDS);
-        let after = &rest[rest.len() - GUARDS..];
-        before.iter().chain(after).all(|number| *number == GUARD)
-    }
-}
-
 #[cfg(test)]
 mod tests {
     use super::*;
@@ -142,18 +105,5 @@ mod tests {
         assert_eq!(seen.bounds.inside(), [9, 9]);
         assert!(seen.bounds.is_intact());
         assert_eq!(case.bounds, [0, 0]);
-    }
-
-    #[test]
-    fn writing_past_a_slice_is_seen() {
-        let right = Guarded::new(&[5, 6]);
-        assert!(right.is_intact());
-        for touched in [0, GUARDS - 1, GUARDS + 2, 2 * GUARDS + 1] {
-            let mut wrong = right.clone();
-            wrong.numbers[touched] = 0;
-            assert!(!wrong.is_intact());
-            assert_eq!(wrong.inside(), [5, 6]);
-            assert_ne!(wrong, right);
-        }
     }
 }

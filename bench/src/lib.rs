@@ -6,10 +6,12 @@ pub mod archive;
 pub mod case;
 pub mod comparison;
 pub mod generator;
+pub mod guarded;
 pub mod list;
 pub mod plan;
 pub mod reference;
 pub mod samples;
+pub mod text_case;
 
 #[cfg(test)]
 mod mutants;

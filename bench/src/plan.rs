@@ -1,6 +1,7 @@
 //! What the command line of `differential` asks for.
 
-pub const USAGE: &str = "usage: differential [pairs=N] [systems=N] [sweeps=N] [seed=N]";
+pub const USAGE: &str =
+    "usage: differential [pairs=N] [systems=N] [sweeps=N] [texts=N] [programs=N] [seed=N]";
 
 #[derive(Clone, Copy, Debug, PartialEq, Eq)]
 pub struct Plan {
@@ -10,6 +11,10 @@ pub struct Plan {
     pub systems: usize,
     /// Random sweep calls.
     pub sweeps: usize,
+    /// Random texts for the report call.
+    pub texts: usize,
+    /// Texts for the program, edge texts and random ones.
+    pub programs: usize,
     pub seed: u64,
 }
 
@@ -18,6 +23,8 @@ impl Plan {
         pairs: 5_000_000,
         systems: 1_000_000,
         sweeps: 2_000_000,
+        texts: 300_000,
+        programs: 2_000,
         seed: 1,
     };
 
@@ -29,6 +36,8 @@ impl Plan {
                 ("pairs", number) => plan.pairs = number.parse().ok()?,
                 ("systems", number) => plan.systems = number.parse().ok()?,
                 ("sweeps", number) => plan.sweeps = number.parse().ok()?,
+                ("texts", number) => plan.texts = number.parse().ok()?,
+                ("programs", number) => plan.programs = number.parse().ok()?,
                 ("seed", number) => plan.seed = number.parse().ok()?,
                 _ => return None,
             }
@@ -51,12 +60,21 @@ mod tests {
             pairs: 2,
             systems: 3,
             sweeps: 5,
+            texts: 6,
+            programs: 7,
             seed: 4,
         };
-        let arguments = ["pairs=2", "systems=3", "sweeps=5", "seed=4"];
+        let mut arguments = [
+            "pairs=2",
+            "systems=3",
+            "sweeps=5",
+            "texts=6",
+            "programs=7",
+            "seed=4",
+        ];
         assert_eq!(read(&arguments), Some(plan));
-        let turned = ["seed=4", "sweeps=5", "systems=3", "pairs=2"];
-        assert_eq!(read(&turned), Some(plan));
+        arguments.reverse();
+        assert_eq!(read(&arguments), Some(plan));
         assert_eq!(read(&[]), Some(Plan::DEFAULT));
     }
 

@@ -2,6 +2,10 @@
 
 #[cfg(feature = "elimination")]
 pub mod elimination;
+#[cfg(feature = "elimination")]
+mod lending;
+#[cfg(feature = "report")]
+pub mod report;
 pub mod steps;
 #[cfg(feature = "sweep")]
 pub mod sweep;

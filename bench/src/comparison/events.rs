@@ -1,10 +1,10 @@
 //! What eliminations can reach, and how often it was reached.
 
+use super::counts::Counts;
 use crate::reference::{
     Call, Phase, Slice, Stop, Trace, DONE, FAULTY_ENDS, FAULTY_LENGTH, FAULTY_SIZE, MOST_EQUATIONS,
     RESULT_OUT_OF_RANGE, ZERO_DIVISOR,
 };
-use std::collections::BTreeMap;
 use std::fmt;
 
 /// One way for an elimination to end, told more finely than by its outcome.
@@ -22,7 +22,7 @@ pub enum Event {
 /// How often each event was met.
 #[derive(Clone, Debug, Default, PartialEq, Eq)]
 pub struct Tally {
-    counts: BTreeMap<Event, u64>,
+    counts: Counts<Event>,
 }
 
 impl Event {
@@ -30,12 +30,19 @@ impl Event {
     pub fn of(n: usize, trace: &Trace) -> Event {
         match trace.end {
             Ok(_) => Event::Done { n },
-            Err(Stop::Size) => Event::Size,
-            Err(Stop::Length(slice)) => Event::Length(slice),
-            Err(Stop::Ends { position }) if position < n * n => Event::EndsInMatrix,
-            Err(Stop::Ends { .. }) => Event::EndsInRightSide,
-            Err(Stop::Pivot { k }) => Event::Pivot { k },
-            Err(Stop::OutOfRange { phase, row }) => Event::OutOfRange { phase, row },
+            Err(stop) => Event::of_stop(n, stop),
+        }
+    }
+
+    /// Why the call of this size was refused.
+    pub fn of_stop(n: usize, stop: Stop) -> Event {
+        match stop {
+            Stop::Size => Event::Size,
+            Stop::Length(slice) => Event::Length(slice),
+            Stop::Ends { position } if position < n * n => Event::EndsInMatrix,
+            Stop::Ends { .. } => Event::EndsInRightSide,
+            Stop::Pivot { k } => Event::Pivot { k },
+            Stop::OutOfRange { phase, row } => Event::OutOfRange { phase, row },
         }
     }
 
@@ -79,59 +86,59 @@ fn can_leave(call: Call, phase: Phase, row: usize) -> bool {
 
 impl Tally {
     pub fn add(&mut self, event: Event) {
-        *self.counts.entry(event).or_default() += 1;
+        self.counts.add(event);
     }
 
     pub fn total(&self) -> u64 {
-        self.counts.values().sum()
+        self.counts.sum(|_| true)
     }
 
     pub fn count(&self, event: Event) -> u64 {
-        self.counts.get(&event).copied().unwrap_or(0)
-    }
-
-    fn sum(&self, wanted: impl Fn(&Event) -> bool) -> u64 {
-        let counts = self.counts.iter().filter(|(event, _)| wanted(event));
-        counts.map(|(_, count)| count).sum()
+        self.counts.count(event)
     }
 
     /// Events that `call` can reach and did not.
     pub fn unreached(&self, call: Call) -> Vec<Event> {
-        let events = Event::all(call).into_iter();
-        events.filter(|event| self.count(*event) == 0).collect()
+        self.counts.unmet(Event::all(call))
     }
 
     /// The counts as they are printed, several lines.
     pub fn report(&self, call: Call) -> String {
-        let sizes = 1..=MOST_EQUATIONS;
-        let done = self.list(sizes.clone().map(|n| Event::Done { n }));
-        let lengths = self.list(Slice::ALL.into_iter().map(Event::Length));
-        let ends = self.list([Event::EndsInMatrix, Event::EndsInRightSide].into_iter());
-        let pivots = self.list(sizes.map(|k| Event::Pivot { k }));
+        let done = (1..=MOST_EQUATIONS).map(|n| Event::Done { n });
+        let lengths = Slice::ALL.into_iter().map(Event::Length);
         let mut lines = vec![
             self.numbers(),
-            format!("  0 for n from 1 to 32: {done}"),
-            format!("  2 at places 1 to 3: {lengths}"),
+            format!("  0 for n from 1 to 32: {}", self.counts.list(done)),
+            format!("  2 at places 1 to 3: {}", self.counts.list(lengths)),
+        ];
+        lines.extend(self.refusals(call));
+        lines.join("\n")
+    }
+
+    /// The lines that tell where 3, 5 and 6 were met.
+    pub fn refusals(&self, call: Call) -> Vec<String> {
+        let ends = [Event::EndsInMatrix, Event::EndsInRightSide];
+        let ends = self.counts.list(ends.into_iter());
+        let pivots = (1..=MOST_EQUATIONS).map(|k| Event::Pivot { k });
+        let pivots = self.counts.list(pivots);
+        let mut lines = vec![
             format!("  3 in matrix, in right side: {ends}"),
             format!("  5 at pivots 1 to 32: {pivots}"),
         ];
         let phases = Phase::ALL.into_iter();
         lines.extend(phases.filter_map(|phase| self.rows(call, phase)));
-        lines.join("\n")
+        lines
     }
 
     fn numbers(&self) -> String {
         let numbers = [0, 1, 2, 3, 5, 6].into_iter();
-        let counts = numbers.map(|number| {
-            let count = self.sum(|event| event.number() == number);
-            format!("{number}: {count}")
-        });
+        let counts = numbers.map(|number| format!("{number}: {}", self.count_of(number)));
         counts.collect::<Vec<_>>().join(", ")
     }
 
-    fn list(&self, events: impl Iterator<Item = Event>) -> String {
-        let counts = events.map(|event| self.count(event).to_string());
-        counts.collect::<Vec<_>>().join(", ")
+    /// How often this number was returned.
+    pub fn count_of(&self, number: u64) -> u64 {
+        self.counts.sum(|event| event.number() == number)
     }
 
     /// Nothing if this phase cannot leave the range in `call`.

@@ -1,7 +1,7 @@
 //! What sweep calls can reach, and how often it was reached.
 
+use super::counts::Counts;
 use crate::reference::{Slice, Stop, SweepEnd, MOST_EQUATIONS, MOST_SWEEPS};
-use std::collections::BTreeMap;
 use std::fmt;
 
 /// One thing that a sweep call can show. A call may show several.
@@ -58,8 +58,8 @@ pub struct Before {
 #[derive(Clone, Debug, Default, PartialEq, Eq)]
 pub struct SweepTally {
     calls: u64,
-    counts: BTreeMap<SweepEvent, u64>,
-    numbers: BTreeMap<u64, u64>,
+    counts: Counts<SweepEvent>,
+    numbers: Counts<u64>,
 }
 
 const NUMBERS: [u64; 7] = [0, 1, 2, 3, 4, 7, 9];
@@ -166,37 +166,36 @@ impl SweepTally {
     /// Counts one call.
     pub fn add(&mut self, number: u64, events: Vec<SweepEvent>) {
         self.calls += 1;
-        *self.numbers.entry(number).or_default() += 1;
-        for event in events {
-            *self.counts.entry(event).or_default() += 1;
-        }
+        self.numbers.add(number);
+        events.into_iter().for_each(|event| self.counts.add(event));
     }
 
     pub fn calls(&self) -> u64 {
         self.calls
     }
 
-    pub fn count(&self, event: SweepEvent) -> u64 {
-        self.counts.get(&event).copied().unwrap_or(0)
-    }
-
     /// Events that were never met.
     pub fn unreached(&self) -> Vec<SweepEvent> {
-        let events = SweepEvent::all().into_iter();
-        events.filter(|event| self.count(*event) == 0).collect()
+        self.counts.unmet(SweepEvent::all())
     }
 
     /// The counts as they are printed, several lines.
     pub fn report(&self) -> String {
         let sizes = 1..=MOST_EQUATIONS;
         let numbers = NUMBERS.map(|number| {
-            let count = self.numbers.get(&number).copied().unwrap_or(0);
+            let count = self.numbers.count(number);
             format!("{number}: {count}")
         });
-        let settled = self.list(sizes.clone().map(|n| SweepEvent::Settled { n }));
-        let spent = self.list(sizes.clone().map(|n| SweepEvent::Spent { n }));
-        let empty = self.list(sizes.map(|vat| SweepEvent::Empty { vat }));
-        let lengths = self.list(Slice::ALL.into_iter().map(SweepEvent::Length));
+        let settled = self
+            .counts
+            .list(sizes.clone().map(|n| SweepEvent::Settled { n }));
+        let spent = self
+            .counts
+            .list(sizes.clone().map(|n| SweepEvent::Spent { n }));
+        let empty = self.counts.list(sizes.map(|vat| SweepEvent::Empty { vat }));
+        let lengths = self
+            .counts
+            .list(Slice::ALL.into_iter().map(SweepEvent::Length));
         let mut lines = vec![
             numbers.join(", "),
             format!("  0 for n from 1 to 32: {settled}"),
@@ -204,14 +203,9 @@ impl SweepTally {
             format!("  7 at vats 1 to 32: {empty}"),
             format!("  2 at places 1 to 3: {lengths}"),
         ];
-        let single = SINGLE.map(|event| format!("  {event}: {}", self.count(event)));
+        let single = SINGLE.map(|event| format!("  {event}: {}", self.counts.count(event)));
         lines.extend(single);
         lines.join("\n")
-    }
-
-    fn list(&self, events: impl Iterator<Item = SweepEvent>) -> String {
-        let counts = events.map(|event| self.count(event).to_string());
-        counts.collect::<Vec<_>>().join(", ")
     }
 }
 

@@ -1,7 +1,7 @@
 //! Comparing lists of sweep calls.
 
+use super::lent::write_answers;
 use super::sweep_events::{Before, SweepEvent, SweepTally};
-use super::systems::{write_left_behind, write_lent};
 use crate::case::{Answer, Case, Slices};
 use crate::list::SweepList;
 use crate::reference::{sweep_end, Outcome, SweepEnd, EMPTY};
@@ -91,29 +91,15 @@ impl fmt::Display for SweepDifference {
         if self.loses_solution {
             writeln!(formatter, "  a solution in the start box is lost")?;
         }
-        writeln!(formatter, "  reference: {}", self.expected.outcome)?;
-        writeln!(formatter, "  archive:   {}", self.given.outcome)?;
-        write_left_behind(formatter, &self.expected, &self.given)?;
-        write_lent(formatter, &self.case)
+        write_answers(formatter, &self.case, &self.expected, &self.given)
     }
 }
 
 #[cfg(test)]
 mod tests {
+    use super::super::lent::changes::CHANGES;
     use super::*;
     use crate::list::{reference_sweep, Solution};
-
-    type Change = fn(&mut Outcome, &mut Slices);
-
-    /// The reference's answer, changed in one number.
-    const CHANGES: [Change; 6] = [
-        |outcome, _| outcome.number += 1,
-        |outcome, _| outcome.place += 1,
-        |outcome, _| outcome.count += 1,
-        |_, slices| slices.bounds[1] += 1,
-        |_, slices| slices.matrix[0] += 1,
-        |_, slices| slices.right_side[0] += 1,
-    ];
 
     /// x = x / 2 + 1 unit, so x is 2 units.
     fn list(allowed: &[usize]) -> SweepList {

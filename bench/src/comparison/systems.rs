@@ -1,6 +1,7 @@
 //! Comparing eliminations.
 
 use super::events::{Event, Tally};
+use super::lent::write_answers;
 use crate::case::{Answer, Case, Slices};
 use crate::reference::{self, Call};
 use crate::reference::{Outcome, Trace};
@@ -66,88 +67,19 @@ fn trace(call: Call, case: &Case) -> Trace {
     reference::trace(call, case.n, &case.matrix, &case.right_side, box_length)
 }
 
-/// Numbers as intervals, a row at a time; an odd last number stands alone.
-fn write_rows(formatter: &mut fmt::Formatter, numbers: &[i64], columns: usize) -> fmt::Result {
-    for row in numbers.chunks(2 * columns.max(1)) {
-        let texts = row.chunks(2).map(|ends| match ends {
-            [lo, hi] => format!("{lo}:{hi}"),
-            rest => format!("{rest:?}"),
-        });
-        let line: Vec<_> = texts.collect();
-        writeln!(formatter, "    {}", line.join(";"))?;
-    }
-    Ok(())
-}
-
-/// Only what the archive left otherwise than the reference.
-pub(super) fn write_left_behind(
-    formatter: &mut fmt::Formatter,
-    expected: &Answer,
-    given: &Answer,
-) -> fmt::Result {
-    for (name, expected, given) in [
-        ("matrix", &expected.matrix, &given.matrix),
-        ("right side", &expected.right_side, &given.right_side),
-        ("box", &expected.bounds, &given.bounds),
-    ] {
-        if !given.is_intact() {
-            writeln!(formatter, "  the archive wrote past the {name}")?;
-        }
-        let both = expected.inside().iter().zip(given.inside());
-        for (place, (expected, given)) in both.enumerate() {
-            if expected != given {
-                writeln!(formatter, "  number {place} of the {name}, from 0:")?;
-                writeln!(formatter, "    reference: {expected}")?;
-                writeln!(formatter, "    archive:   {given}")?;
-            }
-        }
-    }
-    Ok(())
-}
-
-pub(super) fn write_lent(formatter: &mut fmt::Formatter, case: &Case) -> fmt::Result {
-    // A size that is refused says nothing about the rows.
-    let columns = case.n.min(64);
-    for (name, numbers) in [
-        ("matrix", &case.matrix),
-        ("right side", &case.right_side),
-        ("box", &case.bounds),
-    ] {
-        writeln!(formatter, "  lent {name}, {} numbers:", numbers.len())?;
-        write_rows(formatter, numbers, columns)?;
-    }
-    Ok(())
-}
-
 impl fmt::Display for Difference {
     fn fmt(&self, formatter: &mut fmt::Formatter) -> fmt::Result {
         let (name, n) = (self.call.name(), self.case.n);
         writeln!(formatter, "difference in {name}, n = {n}")?;
-        writeln!(formatter, "  reference: {}", self.expected.outcome)?;
-        writeln!(formatter, "  archive:   {}", self.given.outcome)?;
-        write_left_behind(formatter, &self.expected, &self.given)?;
-        write_lent(formatter, &self.case)
+        write_answers(formatter, &self.case, &self.expected, &self.given)
     }
 }
 
 #[cfg(test)]
 mod tests {
+    use super::super::lent::changes::{Change, CHANGES};
     use super::*;
     use crate::samples::systems::{identity, two_thirds};
-
-    type Change = fn(&mut Outcome, &mut Slices);
-
-    /// The reference's answer, changed in one number.
-    const CHANGES: [Change; 8] = [
-        |outcome, _| outcome.number += 1,
-        |outcome, _| outcome.place += 1,
-        |outcome, _| outcome.count += 1,
-        |_, slices| slices.bounds[0] += 1,
-        |_, slices| *slices.bounds.last_mut().unwrap() += 1,
-        |_, slices| slices.matrix[0] += 1,
-        |_, slices| *slices.matrix.last_mut().unwrap() += 1,
-        |_, slices| slices.right_side[0] += 1,
-    ];
 
     fn changed(change: Change, call: Call, n: usize, mut slices: Slices) -> Outcome {
         let mut outcome = reference_call(call, n, slices.again());

@@ -5,8 +5,10 @@ mod pairs;
 mod random;
 mod sweeps;
 mod systems;
+mod texts;
 
 pub use pairs::{edge_pairs, random_pairs};
 pub use random::Random;
 pub use sweeps::{edge_lists, random_lists, random_lists_up_to};
 pub use systems::{edge_cases, random_cases, random_cases_up_to};
+pub use texts::{edge_texts, random_texts, random_texts_up_to};

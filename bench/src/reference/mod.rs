@@ -6,16 +6,23 @@ mod enclosure;
 mod interval;
 mod numbers;
 mod outcome;
+mod sheet;
 mod steps;
 mod sweep;
 #[cfg(test)]
 mod sweep_facts;
 mod system;
+mod text;
+#[cfg(test)]
+mod text_examples;
 
 pub use elimination::{calculate, eliminate, eliminate_balance, numerator, trace, Call, Trace};
 pub use interval::{rounded_product, rounded_quotient, Interval, WideInterval, LIMIT, SCALE};
 pub use numbers::*;
 pub use outcome::{Outcome, Phase, Slice, Stop};
+pub use sheet::{report, sheet, sheet_end, SheetEnd, SHEET_LENGTH, SHEET_SWEEPS};
 pub use steps::{difference, product, quotient, step, sum, Operation, Step};
 pub use sweep::{right_hand, sweep, sweep_end, sweeps, SweepEnd, MOST_SWEEPS};
 pub use system::{intervals, laid_flat, System, MOST_EQUATIONS};
+pub use text::{name_range, read_text, CellarText, Flaw, TextFault, TextPart};
+pub use text::{LONGEST_NAME, MOST_BYTES, MOST_DIGITS};

@@ -16,5 +16,7 @@ pub const ZERO_DIVISOR: u64 = 5;
 pub const RESULT_OUT_OF_RANGE: u64 = 6;
 /// An intersection is empty.
 pub const EMPTY: u64 = 7;
+/// The text is not as described.
+pub const FAULTY_TEXT: u64 = 8;
 /// The last allowed sweep still changed an end; the box is written.
 pub const SPENT: u64 = 9;

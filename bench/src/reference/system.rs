@@ -27,6 +27,12 @@ impl System {
         }
     }
 
+    /// Every number is 0.
+    pub fn noughts(n: usize) -> System {
+        let zero = Interval::point(0);
+        System::new(n, vec![zero; n * n], vec![zero; n])
+    }
+
     pub fn size(&self) -> usize {
         self.n
     }

@@ -3,3 +3,5 @@
 pub mod steps;
 pub mod sweeps;
 pub mod systems;
+pub mod texts;
+pub mod written;

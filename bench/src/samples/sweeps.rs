@@ -1,19 +1,12 @@
 //! The sweep samples of document 01.
 
 use super::systems::{one_balance, two_balances};
+use super::written::{self, Sample};
 use crate::case::{Answer, Case, Slices};
-use crate::reference::{Interval, Outcome};
+use crate::reference::{Interval, Outcome, System};
 
-/// A call with the answer that the document writes down for it.
-#[derive(Clone, Debug)]
-pub struct SweepSample {
-    pub name: &'static str,
-    pub case: Case,
-    pub allowed: usize,
-    pub outcome: Outcome,
-    /// The box that is written, if any.
-    pub bounds: Option<Vec<i64>>,
-}
+/// With the number of sweeps allowed.
+pub type SweepSample = Sample<usize>;
 
 /// The balance of the program's input over a start box.
 pub fn program_input(start: [i64; 4]) -> Case {
@@ -34,12 +27,7 @@ fn one_vat() -> Case {
 
 /// So many vats without shares or deliveries.
 fn noughts(n: usize) -> Case {
-    Case {
-        n,
-        matrix: vec![0; 2 * n * n],
-        right_side: vec![0; 2 * n],
-        bounds: vec![0; 2 * n],
-    }
+    Case::new(&System::noughts(n))
 }
 
 /// The upper end falls by a unit in each of 10,000 sweeps.
@@ -52,29 +40,18 @@ fn ten_thousand() -> Case {
     }
 }
 
-fn refused(name: &'static str, case: Case, allowed: usize, outcome: Outcome) -> SweepSample {
-    SweepSample {
-        name,
-        case,
-        allowed,
-        outcome,
-        bounds: None,
-    }
-}
-
-fn written(
+fn settled_or_spent(
     name: &'static str,
     (case, allowed): (Case, usize),
     (number, count): (u64, u64),
     bounds: &[i64],
 ) -> SweepSample {
-    SweepSample {
-        name,
-        case,
-        allowed,
-        outcome: Outcome::counted(number, 0, count),
-        bounds: Some(bounds.to_vec()),
-    }
+    let outcome = Outcome::counted(number, 0, count);
+    Sample::written(name, (allowed, case), outcome, bounds)
+}
+
+fn refused(name: &'static str, case: Case, allowed: usize, outcome: Outcome) -> SweepSample {
+    Sample::refused(name, (allowed, case), outcome)
 }
 
 pub fn all() -> Vec<SweepSample> {
@@ -84,13 +61,13 @@ pub fn all() -> Vec<SweepSample> {
     let apart = [5_000_000, 6_000_000, 0, 1_000_000];
     let four = Outcome::new(4, 0);
     vec![
-        written(
+        settled_or_spent(
             "start [0, 10] twice",
             (program_input(tens), 3),
             (9, 3),
             &swept,
         ),
-        written(
+        settled_or_spent(
             "the program's output",
             (program_input(eliminated), 100),
             (0, 1),
@@ -102,9 +79,9 @@ pub fn all() -> Vec<SweepSample> {
             3,
             Outcome::new(7, 1),
         ),
-        written("n = 32", (noughts(32), 1), (0, 1), &[0; 64]),
+        settled_or_spent("n = 32", (noughts(32), 1), (0, 1), &[0; 64]),
         refused("n = 33", noughts(33), 1, Outcome::new(1, 0)),
-        written(
+        settled_or_spent(
             "10,000 sweeps",
             (ten_thousand(), 10_000),
             (9, 10_000),
@@ -115,26 +92,10 @@ pub fn all() -> Vec<SweepSample> {
     ]
 }
 
-impl SweepSample {
-    fn is_met(&self, answer: &Answer) -> bool {
-        let bounds = self.bounds.as_ref().unwrap_or(&self.case.bounds);
-        answer.outcome == self.outcome && answer.bounds.inside() == bounds
-    }
-}
-
 /// The samples for which `call` does not give the written answer, each with
 /// what it gave.
 pub fn failing(call: impl Fn(usize, Slices, usize) -> Outcome) -> Vec<(SweepSample, Answer)> {
-    let samples = all().into_iter();
-    samples
-        .map(|sample| {
-            let given = sample
-                .case
-                .answer(|n, slices| call(n, slices, sample.allowed));
-            (sample, given)
-        })
-        .filter(|(sample, given)| !sample.is_met(given))
-        .collect()
+    written::failing(all(), |allowed, n, slices| call(n, slices, allowed))
 }
 
 #[cfg(test)]

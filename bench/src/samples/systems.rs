@@ -1,18 +1,11 @@
 //! The elimination samples of documents 01 and 000.
 
+use super::written::{self, Sample};
 use crate::case::{Answer, Case, Slices};
 use crate::reference::{Call, Interval, Outcome, System};
 
-/// A system with the answer that a document writes down for it.
-#[derive(Clone, Debug)]
-pub struct Sample {
-    pub name: &'static str,
-    pub call: Call,
-    pub case: Case,
-    pub outcome: Outcome,
-    /// The box that is written, if any.
-    pub bounds: Option<Vec<i64>>,
-}
+/// With the call that it is for.
+pub type SystemSample = Sample<Call>;
 
 /// One, counted in units.
 const ONE: i64 = 1_000_000;
@@ -39,24 +32,13 @@ fn lent(system: &System) -> Case {
     case
 }
 
-fn accepted(name: &'static str, call: Call, system: System, bounds: &[i64]) -> Sample {
-    Sample {
-        name,
-        call,
-        case: lent(&system),
-        outcome: Outcome::DONE,
-        bounds: Some(bounds.to_vec()),
-    }
+fn accepted(name: &'static str, call: Call, system: System, bounds: &[i64]) -> SystemSample {
+    Sample::written(name, (call, lent(&system)), Outcome::DONE, bounds)
 }
 
-fn zero_pivot(name: &'static str, system: System, k: u64) -> Sample {
-    Sample {
-        name,
-        call: Call::Eliminate,
-        case: lent(&system),
-        outcome: Outcome::new(5, k),
-        bounds: None,
-    }
+fn zero_pivot(name: &'static str, system: System, k: u64) -> SystemSample {
+    let case = lent(&system);
+    Sample::refused(name, (Call::Eliminate, case), Outcome::new(5, k))
 }
 
 /// A = [1, 1.6], f = [1, 2].
@@ -143,11 +125,11 @@ fn identity_box(n: i64) -> Vec<i64> {
     (1..=n).flat_map(|i| [i * ONE, i * ONE]).collect()
 }
 
-pub fn all() -> Vec<Sample> {
+pub fn all() -> Vec<SystemSample> {
     [balances(), examples(), sizes()].concat()
 }
 
-fn balances() -> Vec<Sample> {
+fn balances() -> Vec<SystemSample> {
     let half = Interval::point(500_000);
     let up_to_half = Interval::new(0, 500_000);
     let of_balance =
@@ -167,7 +149,7 @@ fn balances() -> Vec<Sample> {
     ]
 }
 
-fn examples() -> Vec<Sample> {
+fn examples() -> Vec<SystemSample> {
     let of_system = |name, system, bounds: &[i64]| accepted(name, Call::Eliminate, system, bounds);
     let zeros = [0; 6];
     vec![
@@ -181,14 +163,9 @@ fn examples() -> Vec<Sample> {
 }
 
 /// n = 32 runs, 33 gives 1, in both calls.
-fn sizes() -> Vec<Sample> {
-    let refused = |call, system| Sample {
-        name: "n = 33",
-        call,
-        case: lent(&system),
-        outcome: Outcome::new(1, 0),
-        bounds: None,
-    };
+fn sizes() -> Vec<SystemSample> {
+    let refused =
+        |call, system| Sample::refused("n = 33", (call, lent(&system)), Outcome::new(1, 0));
     let solution = identity_box(32);
     vec![
         accepted("n = 32", Call::Eliminate, identity(32), &solution),
@@ -198,24 +175,10 @@ fn sizes() -> Vec<Sample> {
     ]
 }
 
-impl Sample {
-    fn is_met(&self, answer: &Answer) -> bool {
-        let bounds = self.bounds.as_ref().unwrap_or(&self.case.bounds);
-        answer.outcome == self.outcome && answer.bounds.inside() == bounds
-    }
-}
-
 /// The samples for which `call` does not give the written answer, each with
 /// what it gave.
-pub fn failing(call: impl Fn(Call, usize, Slices) -> Outcome) -> Vec<(Sample, Answer)> {
-    let samples = all().into_iter();
-    samples
-        .map(|sample| {
-            let given = sample.case.answer(|n, slices| call(sample.call, n, slices));
-            (sample, given)
-        })
-        .filter(|(sample, given)| !sample.is_met(given))
-        .collect()
+pub fn failing(call: impl Fn(Call, usize, Slices) -> Outcome) -> Vec<(SystemSample, Answer)> {
+    written::failing(all(), call)
 }
 
 #[cfg(test)]

@@ -1,39 +1,39 @@
 //! Compares the archive with the reference.
 
+mod rows;
 mod steps;
 #[cfg(feature = "sweep")]
 mod sweeps;
 #[cfg(feature = "elimination")]
 mod systems;
+#[cfg(feature = "report")]
+mod texts;
+#[cfg(feature = "elimination")]
+mod unmet;
 
 use kifwaleb_bench::plan::{Plan, USAGE};
 use std::env;
 use std::process::ExitCode;
 
-#[cfg(feature = "elimination")]
-fn systems_hold(plan: &Plan) -> bool {
-    println!("{} random systems over both calls", plan.systems);
-    systems::hold(plan)
+/// A comparison, or what is said if the archive's calls are not linked.
+macro_rules! if_linked {
+    ($feature:literal, $comparison:expr) => {{
+        #[cfg(feature = $feature)]
+        let holds = $comparison;
+        #[cfg(not(feature = $feature))]
+        let holds = {
+            println!("not compared, the feature is off: {}", $feature);
+            true
+        };
+        holds
+    }};
 }
 
-/// The archive's eliminations are not linked.
-#[cfg(not(feature = "elimination"))]
-fn systems_hold(_: &Plan) -> bool {
-    println!("eliminations are not compared: the feature `elimination` is off");
-    true
-}
-
-#[cfg(feature = "sweep")]
-fn sweeps_hold(plan: &Plan) -> bool {
-    println!("{} random sweep calls", plan.sweeps);
-    sweeps::hold(plan)
-}
-
-/// The archive's sweep call is not linked.
-#[cfg(not(feature = "sweep"))]
-fn sweeps_hold(_: &Plan) -> bool {
-    println!("sweeps are not compared: the feature `sweep` is off");
-    true
+fn all_hold(plan: &Plan) -> bool {
+    steps::hold(plan)
+        && if_linked!("elimination", systems::hold(plan))
+        && if_linked!("sweep", sweeps::hold(plan))
+        && if_linked!("report", texts::hold(plan))
 }
 
 fn main() -> ExitCode {
@@ -42,7 +42,12 @@ fn main() -> ExitCode {
         return ExitCode::from(2);
     };
     println!("{} random pairs per step, seed {}", plan.pairs, plan.seed);
-    if steps::hold(&plan) && systems_hold(&plan) && sweeps_hold(&plan) {
+    println!("{} random systems over both calls", plan.systems);
+    println!(
+        "{} random sweep calls, {} random texts",
+        plan.sweeps, plan.texts
+    );
+    if all_hold(&plan) {
         ExitCode::SUCCESS
     } else {
         ExitCode::FAILURE

@@ -6,7 +6,6 @@ use crate::generator::Random;
 use crate::reference::{Interval, System, LIMIT};
 
 const ONE: i64 = 1_000_000;
-const ZERO: Interval = Interval::point(0);
 
 /// How the intervals of one balance are made.
 #[derive(Clone, Copy)]
@@ -29,10 +28,6 @@ pub fn any(random: &mut Random, n: usize) -> System {
         10 => slow(random, n),
         _ => free(random, n),
     }
-}
-
-fn zeros(n: usize) -> System {
-    System::new(n, vec![ZERO; n * n], vec![ZERO; n])
 }
 
 fn style(random: &mut Random) -> Style {
@@ -67,7 +62,7 @@ fn deliveries(random: &mut Random, balance: &mut System) {
 fn full(random: &mut Random, n: usize, sums: &[i64]) -> System {
     let style = style(random);
     let cap = random.pick(sums) / n as i64;
-    let mut balance = zeros(n);
+    let mut balance = System::noughts(n);
     for i in 1..=n {
         for j in 1..=n {
             balance.set_a(i, j, interval(random, style, cap));
@@ -80,7 +75,7 @@ fn full(random: &mut Random, n: usize, sums: &[i64]) -> System {
 /// A few shares of any magnitude.
 fn sparse(random: &mut Random, n: usize) -> System {
     let style = style(random);
-    let mut balance = zeros(n);
+    let mut balance = System::noughts(n);
     for _ in 0..random.between(0, 2 * n as i64) {
         let i = random.between(1, n as i64) as usize;
         let j = random.between(1, n as i64) as usize;
@@ -93,7 +88,7 @@ fn sparse(random: &mut Random, n: usize) -> System {
 
 /// Whole and half shares, so that many products need no rounding.
 fn halves(random: &mut Random, n: usize) -> System {
-    let mut balance = zeros(n);
+    let mut balance = System::noughts(n);
     for i in 1..=n {
         for j in 1..=n {
             let halves = random.pick(&[0, 0, 0, 0, 0, 1, -1, 2, -2]);
@@ -106,7 +101,7 @@ fn halves(random: &mut Random, n: usize) -> System {
 
 /// Each vat gets from one other, so that a change goes round slowly.
 fn ring(random: &mut Random, n: usize) -> System {
-    let mut balance = zeros(n);
+    let mut balance = System::noughts(n);
     let offset = random.between(0, n as i64 - 1) as usize;
     for i in 1..=n {
         let from = (i - 1 + offset) % n + 1;
@@ -119,7 +114,7 @@ fn ring(random: &mut Random, n: usize) -> System {
 
 /// Shares of about one, and deliveries of a few units: ends move slowly.
 fn slow(random: &mut Random, n: usize) -> System {
-    let mut balance = zeros(n);
+    let mut balance = System::noughts(n);
     for i in 1..=n {
         let share = random.pick(&[ONE, ONE, 999_999, 1_000_001, -ONE, 999_000]);
         balance.set_a(i, i, Interval::point(share));
@@ -132,7 +127,7 @@ fn slow(random: &mut Random, n: usize) -> System {
 /// Any shares at all.
 fn free(random: &mut Random, n: usize) -> System {
     let style = style(random);
-    let mut balance = zeros(n);
+    let mut balance = System::noughts(n);
     for i in 1..=n {
         for j in 1..=n {
             let cap = random.magnitude(LIMIT);

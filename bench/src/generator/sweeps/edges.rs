@@ -6,13 +6,12 @@ use crate::reference::{Interval, System, LIMIT};
 use crate::samples::sweeps as samples;
 
 const ONE: i64 = 1_000_000;
-const ZERO: Interval = Interval::point(0);
 
 /// Every edge list.
 pub fn edge_lists() -> impl Iterator<Item = SweepList> {
     let sampled = samples::all().into_iter();
     sampled
-        .map(|sample| SweepList::new(sample.case, &[sample.allowed, 1]))
+        .map(|sample| SweepList::new(sample.case, &[sample.way, 1]))
         .chain(solved())
         .chain(faults::sizes())
         .chain(faults::lengths())
@@ -42,10 +41,6 @@ fn solved() -> impl Iterator<Item = SweepList> {
     })
 }
 
-fn zeros(n: usize) -> System {
-    System::new(n, vec![ZERO; n * n], vec![ZERO; n])
-}
-
 /// Each vat gets all from its neighbour. From the vat before, one sweep is
 /// enough; from the vat after, every sweep takes one vat further.
 fn chains() -> impl Iterator<Item = SweepList> {
@@ -66,7 +61,7 @@ fn chains() -> impl Iterator<Item = SweepList> {
 }
 
 fn chain(n: usize, forwards: bool) -> System {
-    let mut balance = zeros(n);
+    let mut balance = System::noughts(n);
     let first = if forwards { 1 } else { n };
     balance.set_f(first, Interval::new(5, 7));
     for i in (1..=n).filter(|i| *i != first) {
@@ -95,7 +90,7 @@ fn touching() -> impl Iterator<Item = SweepList> {
             Interval::new(-40, 9),
         ];
         deliveries.map(|delivery| {
-            let mut balance = zeros(n);
+            let mut balance = System::noughts(n);
             (1..=n).for_each(|i| balance.set_f(i, Interval::new(12, 15)));
             balance.set_f(vat, delivery);
             let start = vec![Interval::new(10, 20); n];
@@ -113,7 +108,7 @@ fn far_sums() -> impl Iterator<Item = SweepList> {
         let far = [LIMIT, -LIMIT][code % 2];
         let step = [0, 1, 2][code / 2 % 3];
         let width = [0, 1, 2_000, LIMIT][code / 6];
-        let mut balance = zeros(n);
+        let mut balance = System::noughts(n);
         balance.set_f(1, Interval::point(far));
         balance.set_a(1, 1, Interval::new(step - 1, step));
         for j in 2..=n {

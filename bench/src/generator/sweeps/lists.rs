@@ -1,12 +1,14 @@
 //! Random lists of sweep calls.
 
 use super::{allowances, balances, lent, slow, solved, starts};
-use crate::case::Case;
-use crate::generator::systems::faults::{lengths_around, resize, set_interval};
-use crate::generator::systems::faults::{FAULTY_ENDS, FAULTY_SIZES};
+use crate::generator::systems::sizes::size;
+use crate::generator::systems::spoiling::spoil;
 use crate::generator::Random;
 use crate::list::SweepList;
 use crate::reference::MOST_EQUATIONS;
+
+/// Mostly few vats, as many as can be often enough.
+const SIZES: [u64; 8] = [15, 24, 20, 12, 15, 7, 5, 2];
 
 struct Lists {
     random: Random,
@@ -28,14 +30,14 @@ impl Iterator for Lists {
     type Item = SweepList;
 
     fn next(&mut self) -> Option<SweepList> {
-        let n = self.size();
+        let n = size(&mut self.random, SIZES, self.most);
         let mut list = match self.random.below(16) {
             0..=3 => solved::list(&mut self.random, n),
             4 => self.slow(n),
             _ => self.free(n),
         };
         if self.random.once_in(10) {
-            self.spoil(&mut list.lent);
+            spoil(&mut self.random, &mut list.lent, 3);
             list.solution = None;
         }
         Some(list)
@@ -43,21 +45,6 @@ impl Iterator for Lists {
 }
 
 impl Lists {
-    /// Mostly few vats, as many as can be often enough.
-    fn size(&mut self) -> usize {
-        let (least, most) = match self.random.below(100) {
-            0..=14 => (1, 1),
-            15..=38 => (2, 2),
-            39..=58 => (3, 3),
-            59..=70 => (4, 4),
-            71..=85 => (5, 8),
-            86..=92 => (9, 16),
-            93..=97 => (17, 31),
-            _ => (MOST_EQUATIONS as i64, MOST_EQUATIONS as i64),
-        };
-        (self.random.between(least, most) as usize).min(self.most)
-    }
-
     fn free(&mut self, n: usize) -> SweepList {
         let balance = balances::any(&mut self.random, n);
         let start = starts::any(&mut self.random, &balance);
@@ -78,40 +65,6 @@ impl Lists {
         let past = self.random.between(0, 2);
         let allowed = (changes + past).min(10_000) as usize;
         SweepList::new(case, &[allowed, self.random.pick(&[0, 1, 2, 10_001]), 1])
-    }
-
-    /// Mostly fails a test before the calculation, often several.
-    fn spoil(&mut self, case: &mut Case) {
-        match self.random.below(8) {
-            0 => case.n = self.random.pick(&FAULTY_SIZES).0,
-            1 => case.n = self.random.pick(&[case.n - 1, case.n + 1]),
-            2 | 3 => self.spoil_lengths(case),
-            4 => {
-                self.spoil_ends(case);
-                self.spoil_lengths(case);
-            }
-            _ => self.spoil_ends(case),
-        }
-    }
-
-    fn spoil_lengths(&mut self, case: &mut Case) {
-        for slice in [&mut case.matrix, &mut case.right_side, &mut case.bounds] {
-            if self.random.once_in(2) {
-                let length = self.random.pick(&lengths_around(slice.len()));
-                resize(slice, length);
-            }
-        }
-    }
-
-    /// In each of the three slices about as often.
-    fn spoil_ends(&mut self, case: &mut Case) {
-        let n = case.n as i64;
-        for _ in 0..self.random.between(1, 3) {
-            let first = self.random.pick(&[0, n * n, n * n + n]);
-            let position = self.random.between(first, n * n + 2 * n - 1);
-            let interval = self.random.pick(&FAULTY_ENDS);
-            set_interval(case, position as usize, interval);
-        }
     }
 }
 

@@ -1,7 +1,7 @@
 //! Lists of sweep calls.
 
 mod allowances;
-mod balances;
+pub(super) mod balances;
 mod edges;
 mod faults;
 mod lists;

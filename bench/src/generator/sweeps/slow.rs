@@ -11,8 +11,7 @@ const ONE: i64 = 1_000_000;
 /// Without shares, except the vat's own. The start box of the others is the
 /// point that they keep.
 fn alone(n: usize, vat: usize, share: i64, delivery: i64, upper: i64) -> Case {
-    let zero = Interval::point(0);
-    let mut balance = System::new(n, vec![zero; n * n], vec![zero; n]);
+    let mut balance = System::noughts(n);
     let mut start: Vec<_> = (1..=n as i64).map(Interval::point).collect();
     (1..=n).for_each(|i| balance.set_f(i, start[i - 1]));
     balance.set_a(vat, vat, Interval::point(share));

@@ -79,8 +79,7 @@ fn scattered(i: usize, j: usize, variant: usize, cap: i64) -> i64 {
 fn awkward(n: usize, variant: usize) -> System {
     let width = [0, 1, 345][variant % 3];
     let interval = |value: i64| Interval::new(value, value + width);
-    let zero = Interval::point(0);
-    let mut balance = System::new(n, vec![zero; n * n], vec![zero; n]);
+    let mut balance = System::noughts(n);
     for i in 1..=n {
         for j in 1..=n {
             let cap = 800_000 / n as i64;

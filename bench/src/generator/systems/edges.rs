@@ -41,7 +41,7 @@ pub fn edge_cases(call: Call) -> impl Iterator<Item = Case> {
 /// The samples of this call, and those of the other one in this call's form.
 fn sampled(call: Call) -> impl Iterator<Item = Case> {
     let samples = samples::all().into_iter();
-    let native = samples.filter(move |sample| sample.call == call);
+    let native = samples.filter(move |sample| sample.way == call);
     let arrows = [
         samples::arrow(),
         samples::exchanged_arrow(),

@@ -49,15 +49,9 @@ pub const FAULTY_SIZES: [(usize, usize); 20] = [
 /// Sizes at which every wrong length is tried.
 const TRIED_SIZES: [usize; 6] = [1, 2, 3, 8, 31, 32];
 
-/// Any number of noughts: as A, every pivot contains 0.
-fn noughts(n: usize) -> System {
-    let zero = Interval::point(0);
-    System::new(n, vec![zero; n * n], vec![zero; n])
-}
-
 /// As B, I − B leaves the range in every row.
 fn low_shares(n: usize) -> System {
-    let mut system = noughts(n);
+    let mut system = System::noughts(n);
     (1..=n).for_each(|i| system.set_a(i, i, Interval::point(-LIMIT)));
     system
 }
@@ -99,7 +93,7 @@ pub fn set_interval(case: &mut Case, position: usize, interval: Interval) {
 
 pub fn faulty_sizes() -> impl Iterator<Item = Case> {
     FAULTY_SIZES.into_iter().flat_map(|(n, lent)| {
-        [identity(lent), noughts(lent), low_shares(lent)].map(|system| Case {
+        [identity(lent), System::noughts(lent), low_shares(lent)].map(|system| Case {
             n,
             ..Case::new(&system)
         })
@@ -128,7 +122,8 @@ fn with_lengths(mut case: Case, [matrix, right_side, bounds]: [usize; 3]) -> Cas
 }
 
 /// One faulty interval at every position, in a system that is solved without
-/// it and in others that the calculation would refuse.
+/// it and in others that the calculation would refuse: as A, noughts have a 0
+/// in every pivot.
 pub fn faulty_ends(sizes: RangeInclusive<usize>) -> impl Iterator<Item = Case> {
     sizes.flat_map(|n| {
         let kinds = if n <= 4 { FAULTY_ENDS.len() } else { 1 };
@@ -136,7 +131,7 @@ pub fn faulty_ends(sizes: RangeInclusive<usize>) -> impl Iterator<Item = Case> {
             (0..kinds).map(move |kind| (position, FAULTY_ENDS[(position + kind) % 12]))
         });
         every.flat_map(move |(position, interval)| {
-            [identity(n), noughts(n), low_shares(n)].map(|system| {
+            [identity(n), System::noughts(n), low_shares(n)].map(|system| {
                 let mut case = Case::new(&system);
                 set_interval(&mut case, position, interval);
                 case

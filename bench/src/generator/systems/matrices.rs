@@ -44,10 +44,6 @@ pub fn any(random: &mut Random, n: usize) -> System {
     }
 }
 
-fn zeros(n: usize) -> System {
-    System::new(n, vec![ZERO; n * n], vec![ZERO; n])
-}
-
 fn style(random: &mut Random) -> Style {
     let scale = match random.below(4) {
         0 => 1_000 + random.magnitude(LIMIT / 8),
@@ -113,7 +109,7 @@ fn dominant(random: &mut Random, n: usize) -> System {
     let style = style(random);
     let weight = random.pick(&[100, 500, 900, 1_000]);
     let empty_places = random.pick(&[1, 2, 4]);
-    let mut system = zeros(n);
+    let mut system = System::noughts(n);
     for i in 1..=n {
         let least = style.scale + random.between(0, style.scale);
         let cap = least * weight / 1_000 / (n as i64 - 1).max(1);
@@ -131,7 +127,7 @@ fn dominant(random: &mut Random, n: usize) -> System {
 /// From a balance of shares that are not negative and come to less than one
 /// in each column.
 fn shares(random: &mut Random, n: usize) -> System {
-    let mut balance = zeros(n);
+    let mut balance = System::noughts(n);
     let (widths, signs) = (Widths::Wide, Signs::Positive);
     let scale = ONE;
     let wide = Style {
@@ -189,7 +185,7 @@ fn exchange_rows(system: &mut System, first: usize, second: usize) {
 /// Whole and half numbers: exact results, and pivots that are exactly 0.
 fn small_numbers(random: &mut Random, n: usize) -> System {
     let choices = [-2, -1, -1, 0, 0, 0, 0, 1, 1, 2, 3, 4].map(|halves| halves * ONE / 2);
-    let mut system = zeros(n);
+    let mut system = System::noughts(n);
     for i in 1..=n {
         for j in 1..=n {
             let heavy = if i == j { 2 * ONE } else { 0 };
@@ -203,7 +199,7 @@ fn small_numbers(random: &mut Random, n: usize) -> System {
 /// Diagonal, last row and last column only.
 fn arrow(random: &mut Random, n: usize) -> System {
     let style = style(random);
-    let mut system = zeros(n);
+    let mut system = System::noughts(n);
     for i in 1..=n {
         let least = style.scale + random.between(0, style.scale);
         system.set_a(i, n, style.entry(random, least));
@@ -217,7 +213,7 @@ fn arrow(random: &mut Random, n: usize) -> System {
 /// Upper triangles in which far larger products than the range has room for
 /// take each other away again.
 fn cancelling(random: &mut Random, n: usize) -> System {
-    let mut system = zeros(n);
+    let mut system = System::noughts(n);
     let solution = LIMIT / (1 + random.between(0, 9));
     for i in 1..=n {
         let large = random.between(LIMIT / 2, LIMIT);
@@ -242,7 +238,7 @@ fn cancelling(random: &mut Random, n: usize) -> System {
 
 /// A heavy diagonal and very few entries of any magnitude.
 fn sparse(random: &mut Random, n: usize) -> System {
-    let mut system = zeros(n);
+    let mut system = System::noughts(n);
     let style = style(random);
     for i in 1..=n {
         system.set_a(i, i, style.diagonal(random, style.scale));
@@ -260,7 +256,7 @@ fn sparse(random: &mut Random, n: usize) -> System {
 /// Any entries at all, the diagonal mostly without 0.
 fn free(random: &mut Random, n: usize) -> System {
     let style = style(random);
-    let mut system = zeros(n);
+    let mut system = System::noughts(n);
     for i in 1..=n {
         for j in 1..=n {
             let cap = random.magnitude(LIMIT);

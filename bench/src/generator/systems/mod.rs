@@ -6,7 +6,9 @@ mod cases;
 mod edges;
 pub(super) mod faults;
 pub(super) mod matrices;
+pub(super) mod sizes;
 mod small;
+pub(super) mod spoiling;
 mod spots;
 mod steering;
 

@@ -81,11 +81,7 @@ fn awkward(n: usize, variant: usize) -> System {
             0
         }
     };
-    let mut system = System::new(
-        n,
-        vec![Interval::point(0); n * n],
-        vec![Interval::point(0); n],
-    );
+    let mut system = System::noughts(n);
     for i in 1..=n {
         for j in 1..=n {
             system.set_a(i, j, interval(heavy(i, j) + scattered(i, j, variant)));

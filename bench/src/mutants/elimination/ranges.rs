@@ -136,18 +136,14 @@ const FURTHER_TESTS: [(&str, FurtherTest); 6] = [
 ];
 
 fn partial_sums(work: &Work, i: usize) -> Vec<Span> {
-    let columns = i + 1..=work.n;
-    let mut sum = work.f(i);
-    columns
-        .map(|j| {
-            sum = sum.minus(work.a(i, j).times(work.x(j)));
-            sum
-        })
-        .collect()
+    partial_sums_over(work, i, i + 1..=work.n)
 }
 
 fn partial_sums_from_last(work: &Work, i: usize) -> Vec<Span> {
-    let columns = (i + 1..=work.n).rev();
+    partial_sums_over(work, i, (i + 1..=work.n).rev())
+}
+
+fn partial_sums_over(work: &Work, i: usize, columns: impl Iterator<Item = usize>) -> Vec<Span> {
     let mut sum = work.f(i);
     columns
         .map(|j| {

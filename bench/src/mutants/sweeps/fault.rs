@@ -1,17 +1,5 @@
 //! The faults that a wrong version can have.
 
-/// The names once, for the type and for the list of all.
-macro_rules! faults {
-    ($($name:ident,)*) => {
-        #[derive(Clone, Copy, Debug, PartialEq, Eq)]
-        pub enum Fault {
-            $($name,)*
-        }
-
-        pub const ALL: &[Fault] = &[$(Fault::$name,)*];
-    };
-}
-
 faults! {
     // The tests before the calculation.
     EndsBeforeAllowed,

@@ -1,0 +1,16 @@
+//! Texts for the report call and the program.
+
+mod accidents;
+mod damage;
+mod draft;
+mod drawn;
+mod edges;
+mod limits;
+mod names;
+mod sheets;
+mod slips;
+mod slow;
+mod spellings;
+
+pub use drawn::{random_texts, random_texts_up_to};
+pub use edges::edge_texts;
