@@ -1,0 +1,5 @@
+pub mod Decimal
+pub mod Magnitude
+pub mod Put
+pub mod Sheet
+pub mod Run

@@ -1,0 +1,28 @@
+-- What the functions that print promise each other.
+use mathlib.Core.Path.{_≡_}
+use mathlib.Core.List.{List}
+use Prim.Native.Nat.{ℕ, _+_, _*_, _≤_}
+use lib.IntN.{ℤ}
+use lib.ListN.{length, take, drop}
+use lib.Seq.{paste}
+use Rattle.inputs.specs.Tests.{System, system}
+
+-- out with the bytes s from place `at` on
+unfoldable pub written : List ℕ → (at : ℕ) → List ℕ → List ℕ
+written out at s = paste out at s (length s)
+
+-- s had room from place `at` on and was put there, and next is the place after it
+pub record Put (before : List ℕ) (at : ℕ) (s : List ℕ) (after : List ℕ) (next : ℕ) : Type 0 where
+  pub room : at + length s ≤ length before
+  pub bytes : after ≡ written before at s
+  pub end : next ≡ at + length s
+
+-- s was put at the beginning
+pub record Sheet (before s after : List ℕ) (count : ℕ) : Type 0 where
+  pub whole : count ≡ length s
+  pub bytes : after ≡ written before 0 s
+  pub inside : count ≤ length after
+
+-- the balance of which the numbers stand at the beginning of t
+abbrev pub systemOf : (n : ℕ) → List ℤ → System
+systemOf n t = system n (take (2 * (n * n)) t) (take (2 * n) (drop (2 * (n * n)) t))
