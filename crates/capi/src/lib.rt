@@ -1,3 +1,4 @@
 // The calls for programs in C and Rust, in the archive that 'rt staticlib capi' makes.
 pub mod steps;
 pub mod systems;
+pub mod texts;

@@ -19,7 +19,7 @@ pub struct KifwalebOutcome {
     pub count: u64,
 }
 
-fn counted(o: Outcome, count: usize) -> KifwalebOutcome
+pub(crate) fn counted(o: Outcome, count: usize) -> KifwalebOutcome
     ensures { λ r. ⌜ (rowOf r ≡ paper o) × (r .count ≡ count) ⌝ }
 {
     let number = o.number();
