@@ -1,4 +1,4 @@
--- The definitions give document 01's starred samples, by computation.
+-- The definitions give document 01's starred samples and the program's sample, by computation.
 use mathlib.Core.Path.{refl}
 use Rattle.integer.specs.Rounding.{floorDiv, ceilDiv}
 use Rattle.integer.specs.Extremes.{minimum, maximum}
@@ -15,8 +15,22 @@ use Rattle.elimination.specs.Call as call
 use Rattle.sweep.specs.Pass as pass
 use Rattle.sweep.specs.Call as swept
 use Rattle.sweep.specs.Calls.{answer}
+use Rattle.text.specs.Parts.{firstIn, firstFrom, longer, parts}
+use Rattle.text.specs.Number.{isDigit, digits, plain, magnitude, below, number, value, then, values}
+use Rattle.text.specs.Names.{nameByte, allBytes, isName, same, among, eachName, areNames}
+use Rattle.text.specs.Text as text
+use Rattle.report.specs.Decimal.{digitsWithin, natural, decimal}
+use Rattle.report.specs.Sheet.{bound, further, bounds, settled, counted, calculated}
+use Rattle.report.specs.Call.{concluded, tightened, eliminated, solvedIn, solved, sheet}
 use Rattle.samples.specs.Table.{table, Agrees}
+use Rattle.samples.specs.Sheet.{Prints}
+
+all : Agrees table × Prints
+unfolding floorDiv ceilDiv minimum maximum scale lowest highest within inRange acceptable containsZero exactSum exactDifference intersection isEmpty productAt quotientAt badOperand tested ranged at put both need sized long sizes proper allProper summed singly andThen inRangeThen pivoted columns rightSide rows pivots forward numerator back unit unitRow unitRows call.copied call.box call.solved call.tests call.tested call.overA call.overB pass.component pass.changes pass.sweepFrom pass.sweep swept.sweeps swept.allowance swept.tests swept.tested answer firstIn firstFrom longer parts isDigit digits plain magnitude below number value then values nameByte allBytes isName same among eachName areNames text.firstLine text.headOf text.namesIn text.atEnd text.rowsFrom text.reading digitsWithin natural decimal bound further bounds settled counted calculated concluded tightened eliminated solvedIn solved sheet
+all = ((refl, (refl, (refl, (refl, (refl, (refl, (refl, (refl, (refl, (refl, (refl, (refl, (refl, (refl, (refl, (refl, tt)))))))))))))))), refl)
 
 pub agree : Agrees table
-unfolding floorDiv ceilDiv minimum maximum scale lowest highest within inRange acceptable containsZero exactSum exactDifference intersection isEmpty productAt quotientAt badOperand tested ranged at put both need sized long sizes proper allProper summed singly andThen inRangeThen pivoted columns rightSide rows pivots forward numerator back unit unitRow unitRows call.copied call.box call.solved call.tests call.tested call.overA call.overB pass.component pass.changes pass.sweepFrom pass.sweep swept.sweeps swept.allowance swept.tests swept.tested answer
-agree = (refl, (refl, (refl, (refl, (refl, (refl, (refl, (refl, (refl, (refl, (refl, (refl, (refl, (refl, (refl, (refl, tt))))))))))))))))
+agree = all .0
+
+pub prints : Prints
+prints = all .1
