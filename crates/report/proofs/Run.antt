@@ -1,13 +1,14 @@
 -- The sheet, by what the calls returned.
 use mathlib.Core.Path.{_≡_, refl, sym, ap, ap₂, subst, _∙_}
 use mathlib.Core.Bool.{true, false}
-use mathlib.Core.List.{List, [], _∷_}
+use mathlib.Core.List.{List, [], _∷_, _++_}
 use Prim.Native.Nat.{ℕ, zero, suc, _+_, _-_, _*_, _≤_, _<_}
 use native.Mathlib.Omega.{arith}
+use native.Mathlib.Nat.{zero-add}
 use borrow.Author.Tests.{eq-eqb, ne-eqb}
 use lib.IntN.{ℤ, pos}
 use lib.ListN.{length, take, drop, replicate}
-use lib.Seq.{length-take-le}
+use lib.Seq.{length-take-le, take-length}
 use Rattle.io.specs.Counts.{Counts}
 use Rattle.outcome.specs.declared.Outcome.the-variants as outcome
 use Rattle.outcome.specs.Table.{Row, paper}
@@ -105,6 +106,11 @@ module _ (text : List ℕ) (t : List ℤ) {r : code.Reading} (e : readingIs text
   unfolding sheet
   sheet-solved f = ap sheetOf (ap (λ q. readingIs text q t) (sym f) ∙ e)
 
+-- what is put at the beginning stands before what was lent
+fronted : (out s : List ℕ) → written out 0 s ≡ s ++ drop (length s) out
+unfolding written
+fronted out s = λ i. take-length s i ++ drop (zero-add (length s) i) out
+
 -- ---- the call, by the length of out
 module _ (text out : List ℕ) where
   abbrev Answers : Row → ℕ → List ℕ → Type 0
@@ -116,4 +122,4 @@ module _ (text out : List ℕ) where
 
   pub report-written : {after : List ℕ} {k : ℕ} → length out ≡ 2048 → Sheet out (sheet text) after k → Answers (paper outcome.Done) k after
   unfolding outcomeOf countOf outAfter
-  report-written {after} {k} h w = rw (eq-eqb (length out) 2048 h) (refl, (w .whole, (w .bytes, (w .inside, sym (length-take-le k after (w .inside))))))
+  report-written {after} {k} h w = rw (eq-eqb (length out) 2048 h) (refl, (w .whole, (w .bytes ∙ fronted out (sheet text), (w .inside, sym (length-take-le k after (w .inside))))))

@@ -1,10 +1,10 @@
 -- Document 01, The cellar text: 'The program 'balance' reads standard input, eliminates from B and b, sweeps with 100 allowed, and prints' the sheet.
 use mathlib.Core.Bool.{Bool, true, false}
-use mathlib.Core.List.{List}
+use mathlib.Core.List.{List, _++_}
 use Prim.Native.Nat.{ℕ, _*_}
 use lib.Dec.{eqb}
 use lib.IntN.{ℤ, pos}
-use lib.ListN.{length, replicate}
+use lib.ListN.{length, drop, replicate}
 use Rattle.outcome.specs.declared.Outcome.{Outcome}
 use Rattle.outcome.specs.declared.Outcome.the-variants as outcome
 use Rattle.outcome.specs.Table.{Row, paper}
@@ -15,7 +15,6 @@ use Rattle.sweep.specs.Call as sweep
 use Rattle.sweep.specs.Calls.{sweepCall, answer}
 use Rattle.text.specs.Text.{Reading, fault, balance, reading}
 use Rattle.report.specs.Sheet.{settled, spent, calculated, refusal}
-use Rattle.report.specs.Code.{written}
 
 abbrev pub pick : Bool → List ℕ → List ℕ → List ℕ
 pick true a b = a
@@ -74,4 +73,4 @@ countOf text l = countIf (eqb l 2048) (length (sheet text))
 
 -- the sheet stands at the beginning of out; what lies past it stays as lent
 unfoldable pub outAfter : List ℕ → List ℕ → List ℕ
-outAfter text out = pick (eqb (length out) 2048) (written out 0 (sheet text)) out
+outAfter text out = pick (eqb (length out) 2048) (sheet text ++ drop (length (sheet text)) out) out

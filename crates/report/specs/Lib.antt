@@ -1,4 +1,4 @@
 pub mod Decimal
 pub mod Sheet
-pub mod Code
 pub mod Call
+pub mod Code
