@@ -65,32 +65,24 @@ module _ {l₀ : Log} {x₀ : List ℤ} {k : ℕ} {l : Log} {x : List ℤ} (s : 
         box = λ lent. s .box lent ∙ ap (λ a. last a lent x) e;
       }
 
-  pub logged-emptied : {i : ℕ} (y : List ℤ) → l ≡ emptied i → Logged l₀ x₀ (record { ending = Emptied i; count = k }) y
-  logged-emptied y e =
-      let f : k + 0 ≡ k = omega arith in
+  -- the end of them, whichever it is
+  logged-end : {n : Ending} {y : List ℤ} → endOf l ≡ n → count l ≡ 0 → (endsEmpty l ≡ false → (lent : List ℤ) → y ≡ last l lent x) → Logged l₀ x₀ (record { ending = n; count = k }) y
+  logged-end e f g =
+      let z : k + 0 ≡ k = omega arith in
       record {
-        ending = sym (s .ending ∙ ap endOf e);
-        count = sym (s .counted ∙ ap (λ a. k + count a) e ∙ f);
-        box = λ h lent. absurd (subst T (sym (s .empty ∙ ap endsEmpty e) ∙ h) tt);
+        ending = sym (s .ending ∙ e);
+        count = sym (s .counted ∙ ap (λ (c : ℕ). k + c) f ∙ z);
+        box = λ h lent. g (sym (s .empty) ∙ h) lent ∙ sym (s .box lent);
       }
+
+  pub logged-emptied : {i : ℕ} (y : List ℤ) → l ≡ emptied i → Logged l₀ x₀ (record { ending = Emptied i; count = k }) y
+  logged-emptied y e = logged-end (ap endOf e) (ap count e) (λ h lent. absurd (subst T (sym (ap endsEmpty e) ∙ h) tt))
 
   pub logged-settled : l ≡ settled → Logged l₀ x₀ (record { ending = Settled; count = k }) x
-  logged-settled e =
-      let f : k + 0 ≡ k = omega arith in
-      record {
-        ending = sym (s .ending ∙ ap endOf e);
-        count = sym (s .counted ∙ ap (λ a. k + count a) e ∙ f);
-        box = λ h lent. sym (s .box lent ∙ ap (λ a. last a lent x) e);
-      }
+  logged-settled e = logged-end (ap endOf e) (ap count e) (λ h lent. sym (ap (λ a. last a lent x) e))
 
   pub logged-spent : l ≡ spent → Logged l₀ x₀ (record { ending = Spent; count = k }) x
-  logged-spent e =
-      let f : k + 0 ≡ k = omega arith in
-      record {
-        ending = sym (s .ending ∙ ap endOf e);
-        count = sym (s .counted ∙ ap (λ a. k + count a) e ∙ f);
-        box = λ h lent. sym (s .box lent ∙ ap (λ a. last a lent x) e);
-      }
+  logged-spent e = logged-end (ap endOf e) (ap count e) (λ h lent. sym (ap (λ a. last a lent x) e))
 
 -- ---- what one pass was
 module _ {p : pass.Pass} {r : OneSweep} {y : List ℤ} (h : Passed p r y) where
@@ -137,24 +129,19 @@ pub logged-from : (p : List ℤ → pass.Pass) (k : ℕ) {x b y : List ℤ} {r :
 logged-from p k {y = y} {r = r} e h = subst (λ (z : List ℤ). Logged (sweeps p k z) z r y) e h
 
 module _ {l : Log} {lent : List ℤ} {r : Sweeps} {y : List ℤ} (h : Logged l lent r y) where
-  pub ran-emptied : {i : ℕ} → r .ending ≡ Emptied i → Ran l lent (record { outcome = outcome.Empty i; count = r .count }) lent
-  ran-emptied e =
+  ran : {n : Ending} {z : List ℤ} → r .ending ≡ n → (endOf l ≡ n → z ≡ last l lent lent) → Ran l lent (record { outcome = said n; count = r .count }) z
+  ran e g =
       let f = sym (h .ending) ∙ e in
-      record {
-        outcome = sym (ending-said l ∙ ap said f);
-        counted = h .count;
-        box = sym (empty-lent l lent lent (empty-ends l ∙ ap isEmptied f));
-      }
+      record { outcome = sym (ending-said l ∙ ap said f); counted = h .count; box = g f }
+
+  pub ran-emptied : {i : ℕ} → r .ending ≡ Emptied i → Ran l lent (record { outcome = outcome.Empty i; count = r .count }) lent
+  ran-emptied e = ran e (λ f. sym (empty-lent l lent lent (empty-ends l ∙ ap isEmptied f)))
 
   pub ran-settled : {z : List ℤ} → r .ending ≡ Settled → z ≡ y → Ran l lent (record { outcome = outcome.Done; count = r .count }) z
-  ran-settled e g =
-      let f = sym (h .ending) ∙ e in
-      record { outcome = sym (ending-said l ∙ ap said f); counted = h .count; box = g ∙ h .box (empty-ends l ∙ ap isEmptied f) lent }
+  ran-settled e g = ran e (λ f. g ∙ h .box (empty-ends l ∙ ap isEmptied f) lent)
 
   pub ran-spent : {z : List ℤ} → r .ending ≡ Spent → z ≡ y → Ran l lent (record { outcome = outcome.Spent; count = r .count }) z
-  ran-spent e g =
-      let f = sym (h .ending) ∙ e in
-      record { outcome = sym (ending-said l ∙ ap said f); counted = h .count; box = g ∙ h .box (empty-ends l ∙ ap isEmptied f) lent }
+  ran-spent e g = ran e (λ f. g ∙ h .box (empty-ends l ∙ ap isEmptied f) lent)
 
 -- ---- a call, after its tests
 module _ (t : Test) (l : Log) (x : List ℤ) where
