@@ -13,7 +13,7 @@ use Rattle.io.specs.Digits.{digits, glyph, Fewest}
 use Rattle.report.specs.Decimal.{digit, digitsWithin, natural}
 
 -- a number without its last digit
-tenth : (n k : ℕ) → n < 10 ^ suc k → n / 10 < 10 ^ k
+pub tenth : (n k : ℕ) → n < 10 ^ suc k → n / 10 < 10 ^ k
 tenth n k h = omega (arith, rw pow-suc at h)
 
 -- ---- how many there are
@@ -35,6 +35,11 @@ natural-few n h = few-digits 20 19 n (omega arith)
 pub magnitude-few : (n : ℕ) → n ≤ 2 ^ 63 → length (natural n) ≤ 19
 unfolding natural
 magnitude-few n h = few-digits 20 18 n (omega arith)
+
+-- as many as an end of a value of the text may have
+pub value-few : (n : ℕ) → n ≤ 9999999999 → length (natural n) ≤ 10
+unfolding natural
+value-few n h = few-digits 20 9 n (omega arith)
 
 -- ---- the fewest digits that hold a number are all its digits
 glyph-digit : (d : ℕ) → d < 10 → glyph d ≡ digit d

@@ -3,3 +3,4 @@ pub mod Magnitude
 pub mod Put
 pub mod Sheet
 pub mod Run
+pub mod ReadBack

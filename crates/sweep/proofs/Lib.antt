@@ -1,3 +1,4 @@
 pub mod Tests
 pub mod Pass
 pub mod Log
+pub mod Kept
