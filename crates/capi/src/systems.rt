@@ -1,17 +1,14 @@
 use elimination::eliminate;
 use elimination::eliminate_balance;
 use outcome::Outcome;
-use sweep::sweep;
 ghost use mathlib.Core.Path.{_≡_};
 ghost use lib.ListN.{length};
 ghost use Rattle.outcome.specs.Table.{paper};
 ghost use Rattle.inputs.specs.Tests.{system};
 ghost use Rattle.elimination.specs.Call.{overA, overB, outcomeOf, boxAfter};
-ghost use Rattle.sweep.specs.Call as swept;
-ghost use Rattle.sweep.specs.Calls.{sweepCall, answer};
 ghost use Rattle.capi.specs.Flat.{rowOf};
 
-// A call's answer: document 01's number and place, and the count of whole sweeps, which is 0 for an elimination.
+// A call's answer: document 01's number and place, and a count: of whole sweeps, of the bytes of a sheet, and 0 for an elimination.
 #[repr(C)]
 pub struct KifwalebOutcome {
     pub number: u64,
@@ -60,22 +57,4 @@ pub extern "C" fn kifwaleb_eliminate_balance(
 {
     let o = eliminate_balance(n, b_matrix, b, bounds);
     counted(o, 0)
-}
-
-#[no_mangle]
-pub extern "C" fn kifwaleb_sweep(
-    n: usize,
-    b_matrix: &[i64],
-    b: &[i64],
-    bounds: &mut [i64],
-    allowed: usize,
-) -> KifwalebOutcome
-    ensures outcome { λ r. ⌜ rowOf r ≡ paper (swept.outcomeOf (answer (system n (now («b_matrix» .entry)) (now (b .entry))) (sweepCall allowed) (now (bounds .entry)))) ⌝ }
-    ensures counted { λ r. ⌜ r .count ≡ swept.countOf (answer (system n (now («b_matrix» .entry)) (now (b .entry))) (sweepCall allowed) (now (bounds .entry))) ⌝ }
-    ensures written { λ r. ⌜ now (bounds .exit) ≡ swept.boxAfter (answer (system n (now («b_matrix» .entry)) (now (b .entry))) (sweepCall allowed) (now (bounds .entry))) (now (bounds .entry)) ⌝ }
-{
-    let s = sweep(n, b_matrix, b, bounds, allowed);
-    let outcome = s.outcome;
-    let count = s.count;
-    counted(outcome, count)
 }

@@ -60,14 +60,14 @@ pub record Span : Type 0 where
 abbrev pub nowhere : Span
 nowhere = record { start = 0; size = 0 }
 
-abbrev pub ifVat : Bool → Span → Span
-ifVat true s = s
-ifVat false s = nowhere
+abbrev pub ifNumbered : Bool → Span → Span
+ifNumbered true s = s
+ifNumbered false s = nowhere
 
 -- 'if the text is too long, line 1 is faulty or the vat number is outside 1 to n'; line 1 begins where the text begins
-abbrev pub nameUnder : Head → (vat : ℕ) → Span
+abbrev pub nameUnder : Head → (component : ℕ) → Span
 nameUnder (wrong k) v = nowhere
-nameUnder (head l ls) v = ifVat (leb 1 v && leb v (namesIn l)) (record { start = startOf (parts 59 l) (v - 1); size = length (part (parts 59 l) (v - 1)) })
+nameUnder (head l ls) v = ifNumbered (leb 1 v && leb v (namesIn l)) (record { start = startOf (parts 59 l) (v - 1); size = length (part (parts 59 l) (v - 1)) })
 
-unfoldable pub nameSpan : List ℕ → (vat : ℕ) → Span
+unfoldable pub nameSpan : List ℕ → (component : ℕ) → Span
 nameSpan text v = nameUnder (headOf text) v

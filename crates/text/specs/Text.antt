@@ -27,13 +27,13 @@ firstLine [] = wrong 1
 firstLine (l ∷ []) = wrong 1
 firstLine (l ∷ (r ∷ rs)) = headed (areNames (parts 59 l)) l (r ∷ rs)
 
-abbrev pub within : Bool → Head → Head
-within true h = h
-within false h = wrong 0
+abbrev pub ifShort : Bool → Head → Head
+ifShort true h = h
+ifShort false h = wrong 0
 
 -- 'A text above 65,536 bytes gives place 0, before any line is judged'
 unfoldable pub headOf : List ℕ → Head
-headOf text = within (leb (length text) 65536) (firstLine (parts 10 text))
+headOf text = ifShort (leb (length text) 65536) (firstLine (parts 10 text))
 
 unfoldable pub namesIn : List ℕ → ℕ
 namesIn l = length (parts 59 l)
@@ -44,10 +44,10 @@ pub data Rows : Type 0 where
   rows : List ℤ → Rows
 
 -- line k, and then the others
-abbrev pub below : (k : ℕ) → Read → Rows → Rows
-below k unread r = faulty k
-below k (read xs) (faulty j) = faulty j
-below k (read xs) (rows ys) = rows (xs ++ ys)
+abbrev pub lineThen : (k : ℕ) → Read → Rows → Rows
+lineThen k unread r = faulty k
+lineThen k (read xs) (faulty j) = faulty j
+lineThen k (read xs) (rows ys) = rows (xs ++ ys)
 
 -- after the last line: a surplus line, ended or not, is line k
 unfoldable pub atEnd : (k : ℕ) → List (List ℕ) → Rows
@@ -61,7 +61,7 @@ unfoldable pub rowsFrom : (n d k : ℕ) → List (List ℕ) → Rows
 rowsFrom n zero k ls = atEnd k ls
 rowsFrom n (suc d) k [] = faulty k
 rowsFrom n (suc d) k (l ∷ []) = faulty k
-rowsFrom n (suc d) k (l ∷ (r ∷ rs)) = below k (values n (parts 59 l)) (rowsFrom n d (k + 1) (r ∷ rs))
+rowsFrom n (suc d) k (l ∷ (r ∷ rs)) = lineThen k (values n (parts 59 l)) (rowsFrom n d (k + 1) (r ∷ rs))
 
 -- ---- the whole text
 pub data Reading : Type 0 where

@@ -71,24 +71,24 @@ pub fn read(text: &[u8], matrix: &mut [i64], right: &mut [i64]) -> Numbers
     }
 }
 
-// The name of a vat, as the part of the text where it stands; an empty part if there is none.
-pub fn name(text: &[u8], vat: usize) -> &[u8]
-    ensures start { λ r. ⌜ r .ptr ≡ ((text .entry) .ptr .0, nameSpan (now (text .entry)) vat .start + (text .entry) .ptr .1) ⌝ }
-    ensures size { λ r. ⌜ length (now r) ≡ nameSpan (now (text .entry)) vat .size ⌝ }
-    ensures bytes { λ r. ⌜ now r ≡ take (nameSpan (now (text .entry)) vat .size) (drop (nameSpan (now (text .entry)) vat .start) (now (text .entry))) ⌝ }
+// The name of a vat, by its number, as the part of the text where it stands; an empty part if there is none.
+pub fn name(text: &[u8], component: usize) -> &[u8]
+    ensures start { λ r. ⌜ r .ptr ≡ ((text .entry) .ptr .0, nameSpan (now (text .entry)) component .start + (text .entry) .ptr .1) ⌝ }
+    ensures size { λ r. ⌜ length (now r) ≡ nameSpan (now (text .entry)) component .size ⌝ }
+    ensures bytes { λ r. ⌜ now r ≡ take (nameSpan (now (text .entry)) component .size) (drop (nameSpan (now (text .entry)) component .start) (now (text .entry))) ⌝ }
 {
     match read_head(text) {
         Head::Named(h) => {
             let n = h.count;
             let stop = h.stop;
-            if vat < 1 {
+            if component < 1 {
                 return &text[..0];
             }
-            if vat > n {
+            if component > n {
                 return &text[..0];
             }
             let line = &text[..stop];
-            let start = start_of(line, vat - 1);
+            let start = start_of(line, component - 1);
             let end = stop_from(line, start);
             &text[start..end]
         }

@@ -30,7 +30,7 @@ fn byte(s: &[u8], at: usize) -> u8 {
 }
 
 // The place after one byte.
-pub fn after(s: &[u8], at: usize) -> usize
+pub(crate) fn after(s: &[u8], at: usize) -> usize
     ensures { λ r. ⌜ r ≤ length (now (s .entry)) ⌝ }
 {
     if at < s.len() {
@@ -58,7 +58,7 @@ fn past_blanks(s: &[u8], from: usize) -> usize {
 }
 
 // The place where the line ends.
-pub fn line_end(s: &[u8], from: usize) -> usize {
+pub(crate) fn line_end(s: &[u8], from: usize) -> usize {
     let mut at = from;
     while at < s.len() {
         if s[at] == b'\n' {
@@ -92,7 +92,7 @@ fn with_digit(v: u64, d: u64) -> u64
     v * 10 + d
 }
 
-pub fn read_natural(s: &[u8], from: usize) -> Natural {
+pub(crate) fn read_natural(s: &[u8], from: usize) -> Natural {
     let mut value: u64 = 0;
     let mut at = past_blanks(s, from);
     while at < s.len() {
@@ -120,7 +120,7 @@ fn negative(m: u64) -> i64 {
     -(m as i64)
 }
 
-pub fn read_number(s: &[u8], from: usize) -> Number {
+pub(crate) fn read_number(s: &[u8], from: usize) -> Number {
     let at = past_blanks(s, from);
     if byte(s, at) == b'-' {
         let m = read_natural(s, after(s, at));
@@ -137,7 +137,7 @@ pub fn read_number(s: &[u8], from: usize) -> Number {
 }
 
 // Reads numbers into all of t, and answers the place after them.
-pub fn fill(s: &[u8], from: usize, t: &mut [i64]) -> usize {
+pub(crate) fn fill(s: &[u8], from: usize, t: &mut [i64]) -> usize {
     let mut at = from;
     for i in 0..t.len() {
         let z = read_number(s, at);
@@ -149,7 +149,7 @@ pub fn fill(s: &[u8], from: usize, t: &mut [i64]) -> usize {
 }
 
 // A length that the file asks for, as far as there is room.
-pub fn room(wanted: u64, most: usize) -> usize
+pub(crate) fn room(wanted: u64, most: usize) -> usize
     ensures { λ r. ⌜ r ≤ most ⌝ }
 {
     let size = wanted as usize;
@@ -159,7 +159,7 @@ pub fn room(wanted: u64, most: usize) -> usize
     size
 }
 
-pub fn read_head(s: &[u8], from: usize) -> Head {
+pub(crate) fn read_head(s: &[u8], from: usize) -> Head {
     let case = read_natural(s, from);
     let at = past_blanks(s, case.at);
     Head {

@@ -52,7 +52,7 @@ fn show(s: Step) {
 }
 
 // A step on two intervals: + - * /
-pub fn step(file: &[u8], h: Head) -> usize {
+pub(crate) fn step(file: &[u8], h: Head) -> usize {
     let x = read_operand(file, h.at);
     let y = read_operand(file, x.at);
     let a = x.value;

@@ -103,7 +103,7 @@ fn filled(
 }
 
 // A system: n, the lengths of matrix, right side and box, and the numbers of all three. Its calls follow.
-pub fn system(file: &[u8], from: usize) -> usize {
+pub(crate) fn system(file: &[u8], from: usize) -> usize {
     let n = read_natural(file, from);
     let m = read_natural(file, n.at);
     let r = read_natural(file, m.at);

@@ -95,12 +95,12 @@ fn read(file: &[u8], at: usize, text: &[u8]) -> usize {
 
 // A name: its length and its bytes.
 fn name(file: &[u8], at: usize, text: &[u8]) -> usize {
-    let vat = read_natural(file, at);
-    let name = text::name(text, vat.value as usize);
+    let component = read_natural(file, at);
+    let name = text::name(text, component.value as usize);
     lines::natural(name.len() as u64);
     lines::say(b" :");
     lines::say(name);
-    vat.at
+    component.at
 }
 
 // A sheet: how the call ended, the count, and what the slice holds up to the last byte that is not as lent.
@@ -159,7 +159,7 @@ fn beyond(file: &[u8], start: usize, size: u64) -> usize
 }
 
 // A text: the number of its bytes, a line end, and the bytes. Its calls follow.
-pub fn text(file: &[u8], from: usize) -> usize {
+pub(crate) fn text(file: &[u8], from: usize) -> usize {
     let size = read_natural(file, from);
     let start = after(file, size.at);
     let stop = beyond(file, start, size.value);

@@ -9,7 +9,7 @@ use lib.ListN.{length, take, drop}
 use Rattle.text.specs.declared.internal.search.Found.the-variants.{At, Nothing}
 use Rattle.text.specs.Parts.{firstFrom, parts}
 use Rattle.text.specs.Number.{read}
-use Rattle.text.specs.Text.{below, rowsFrom, faulty, rows}
+use Rattle.text.specs.Text.{lineThen, rowsFrom, faulty, rows}
 use Rattle.text.specs.Code.{onlyIf}
 use Rattle.text.proofs.Lines.{rows-first, rows-go, rows-out, rows-missing, rows-end, rows-surplus, room, row-after}
 use Rattle.text.proofs.internal.lines.read_rows.Statement.{statement}
@@ -18,7 +18,7 @@ use Rattle.text.proofs.internal.lines.read_rows.Tie as tie
 abbrev Inv-loop : tie.InvT-loop
 Inv-loop text from n t₀ at₀ i₀ i-end t at i =
     (at ≤ length text) × (i ≤ n + 1) × (length t ≡ 2112)
-    × (rowsFrom n (n + 1) 2 (parts 10 (drop from text)) ≡ below 0 (read (take (2 * (i * n)) t)) (rowsFrom n (n + 1 - i) (i + 2) (parts 10 (drop at text))))
+    × (rowsFrom n (n + 1) 2 (parts 10 (drop from text)) ≡ lineThen 0 (read (take (2 * (i * n)) t)) (rowsFrom n (n + 1 - i) (i + 2) (parts 10 (drop at text))))
 
 abbrev μ-loop : tie.MeasureT-loop
 μ-loop text from n t₀ at₀ i₀ i-end t at i = n + 1 - i
@@ -115,7 +115,7 @@ loop-again c =
       v .read-values .kept .1 .1 .0 ∙ l .loop .inv .2,
       l .loop .inv .3
           ∙ rows-go _ _ _ _ (take (2 * (l .loop .i * a .args .n)) (l .loop .t)) (found k) (omega arith) q
-          ∙ ap (λ m. below 0 (read (take (2 * m) last)) (rowsFrom (a .args .n) (a .args .n + 1 - (l .loop .i + 1)) (l .loop .i + 1 + 2) (parts 10 (drop (k .before .e .given .0 .0 + 1) (a .args .text .now))))) (sym (row-after (a .args .n) (l .loop .i))),
+          ∙ ap (λ m. lineThen 0 (read (take (2 * m) last)) (rowsFrom (a .args .n) (a .args .n + 1 - (l .loop .i + 1)) (l .loop .i + 1 + 2) (parts 10 (drop (k .before .e .given .0 .0 + 1) (a .args .text .now))))) (sym (row-after (a .args .n) (l .loop .i))),
     )
 
 add-t24 : tie.Need-add-t24 Inv-loop μ-loop

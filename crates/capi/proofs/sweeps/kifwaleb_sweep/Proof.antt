@@ -1,7 +1,7 @@
 use borrow.Author.Needs.{needs}
 use mathlib.Core.Path.{_∙_}
-use Rattle.capi.proofs.systems.kifwaleb_sweep.Statement.{statement}
-use Rattle.capi.proofs.systems.kifwaleb_sweep.Tie as tie
+use Rattle.capi.proofs.sweeps.kifwaleb_sweep.Statement.{statement}
+use Rattle.capi.proofs.sweeps.kifwaleb_sweep.Tie as tie
 
 sweep-requires : tie.Need-sweep-requires
 sweep-requires c κs = search needs
