@@ -33,7 +33,7 @@ use Rattle.text.specs.Text.{Reading, fault, balance, reading}
 use Rattle.text.proofs.Number.{magnitude-digits, number-plain}
 use Rattle.report.specs.Decimal.{digit, digitsWithin, natural, decimal}
 use Rattle.report.specs.Sheet.{bound, further, bounds, settled, spent, calculated, refusal}
-use Rattle.report.specs.Call.{pick, concluded, tightened, eliminated, solvedIn, solved, sheetOf, sheet}
+use Rattle.report.specs.Call.{concluded, tightened, eliminated, solvedIn, solved, sheetOf, sheet}
 use Rattle.report.specs.ReadBack.{Short, NumberBack, LineBack, ReadsBack, refusing, bounding, SheetBack}
 use Rattle.report.proofs.Decimal.{tenth, value-few}
 
@@ -223,7 +223,7 @@ tightened-back names s x = go (eqb r 0) refl (eqb r 9) refl
     k = countOf (answer s c x)
 
     go : (t : Bool) → eqb r 0 ≡ t → (u : Bool) → eqb r 9 ≡ u
-        → ReadsBack (pick t (calculated names (s .size) (box s c x) settled k) (pick u (calculated names (s .size) (box s c x) spent k) (refusal (paper (outcomeOf (answer s c x))))))
+        → ReadsBack (cond t (calculated names (s .size) (box s c x) settled k) (cond u (calculated names (s .size) (box s c x) spent k) (refusal (paper (outcomeOf (answer s c x))))))
     go true e u f = bounding names (s .size) (box s c x) settled k (box-back s c x (inl (eqb-true r 0 e)))
     go false e true f = bounding names (s .size) (box s c x) spent k (box-back s c x (inr (eqb-true r 9 f)))
     go false e false f = refusing (paper (outcomeOf (answer s c x)))
@@ -235,7 +235,7 @@ solved-back names s lent = go (eqb (paper (elimination.outcomeOf (eliminated s))
     x : List ℤ
     x = elimination.boxAfter (eliminated s) lent
 
-    go : (t : Bool) → ReadsBack (pick t (tightened names s x) (refusal (paper (elimination.outcomeOf (eliminated s)))))
+    go : (t : Bool) → ReadsBack (cond t (tightened names s x) (refusal (paper (elimination.outcomeOf (eliminated s)))))
     go true = tightened-back names s x
     go false = refusing (paper (elimination.outcomeOf (eliminated s)))
 

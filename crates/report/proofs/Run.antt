@@ -1,8 +1,7 @@
 -- The sheet, by what the calls returned.
-use mathlib.Core.Path.{_≡_, refl, sym, ap, ap₂, subst, _∙_}
-use mathlib.Core.Bool.{true, false}
-use mathlib.Core.List.{List, [], _∷_, _++_}
-use Prim.Native.Nat.{ℕ, zero, suc, _+_, _-_, _*_, _≤_, _<_}
+use mathlib.Core.Path.{_≡_, refl, sym, ap, ap₂, _∙_}
+use mathlib.Core.List.{List, _∷_, _++_}
+use Prim.Native.Nat.{ℕ, zero, suc, _+_, _-_, _*_, _≤_}
 use native.Mathlib.Omega.{arith}
 use native.Mathlib.Nat.{zero-add}
 use borrow.Author.Tests.{eq-eqb, ne-eqb}
@@ -22,7 +21,7 @@ use Rattle.text.specs.declared.internal.lines.Reading.the-variants as whole
 use Rattle.text.specs.Text.{reading}
 use Rattle.text.specs.Code.{readingIs}
 use Rattle.report.specs.Sheet.{settled, spent, calculated, refusal}
-use Rattle.report.specs.Call.{pick, concluded, tightened, eliminated, solvedIn, solved, sheetOf, sheet, outcomeOf, countOf, outAfter}
+use Rattle.report.specs.Call.{concluded, tightened, eliminated, solvedIn, solved, sheetOf, sheet, outcomeOf, countOf, outAfter}
 use Rattle.report.specs.Code.{written, Sheet, systemOf}
 
 -- what a function put, as the sheet that it is

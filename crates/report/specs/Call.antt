@@ -1,5 +1,5 @@
 -- Document 01, The cellar text: 'The program 'balance' reads standard input, eliminates from B and b, sweeps with 100 allowed, and prints' the sheet.
-use mathlib.Core.Bool.{Bool, true, false}
+use mathlib.Core.Bool.{cond}
 use mathlib.Core.List.{List, _++_}
 use Prim.Native.Nat.{ℕ, _*_}
 use lib.Dec.{eqb}
@@ -16,14 +16,10 @@ use Rattle.sweep.specs.Calls.{sweepCall, answer}
 use Rattle.text.specs.Text.{Reading, fault, balance, reading}
 use Rattle.report.specs.Sheet.{settled, spent, calculated, refusal}
 
-abbrev pub pick : Bool → List ℕ → List ℕ → List ℕ
-pick true a b = a
-pick false a b = b
-
 -- by what the sweep call returned: 0 settled, 9 spent, any other number a refusal
 unfoldable pub concluded : (names : List ℕ) → (n : ℕ) → Row → (count : ℕ) → (box : List ℤ) → List ℕ
 concluded names n r count x =
-    pick (eqb (r .number) 0) (calculated names n x settled count) (pick (eqb (r .number) 9) (calculated names n x spent count) (refusal r))
+    cond (eqb (r .number) 0) (calculated names n x settled count) (cond (eqb (r .number) 9) (calculated names n x spent count) (refusal r))
 
 -- 'sweeps with 100 allowed', from the box of the elimination
 unfoldable pub tightened : (names : List ℕ) → System → (box : List ℤ) → List ℕ
@@ -39,7 +35,7 @@ eliminated s = elimination.overB s (2 * s .size)
 
 unfoldable pub solvedIn : (names : List ℕ) → System → (lent : List ℤ) → List ℕ
 solvedIn names s lent =
-    pick (eqb (paper (elimination.outcomeOf (eliminated s)) .number) 0)
+    cond (eqb (paper (elimination.outcomeOf (eliminated s)) .number) 0)
     (tightened names s (elimination.boxAfter (eliminated s) lent))
     (refusal (paper (elimination.outcomeOf (eliminated s))))
 
@@ -56,21 +52,13 @@ unfoldable pub sheet : List ℕ → List ℕ
 sheet text = sheetOf (reading text)
 
 -- ---- the call: out has exactly 2,048 bytes, or nothing is written
-abbrev pub outcomeIf : Bool → Outcome
-outcomeIf true = outcome.Done
-outcomeIf false = outcome.Length 3
-
 unfoldable pub outcomeOf : (out : ℕ) → Outcome
-outcomeOf l = outcomeIf (eqb l 2048)
-
-abbrev pub countIf : Bool → ℕ → ℕ
-countIf true k = k
-countIf false k = 0
+outcomeOf l = cond (eqb l 2048) outcome.Done (outcome.Length 3)
 
 -- the number of bytes written: all of the sheet, also one that says 'refused'
 unfoldable pub countOf : List ℕ → (out : ℕ) → ℕ
-countOf text l = countIf (eqb l 2048) (length (sheet text))
+countOf text l = cond (eqb l 2048) (length (sheet text)) 0
 
 -- the sheet stands at the beginning of out; what lies past it stays as lent
 unfoldable pub outAfter : List ℕ → List ℕ → List ℕ
-outAfter text out = pick (eqb (length out) 2048) (sheet text ++ drop (length (sheet text)) out) out
+outAfter text out = cond (eqb (length out) 2048) (sheet text ++ drop (length (sheet text)) out) out

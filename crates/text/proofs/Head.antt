@@ -1,8 +1,8 @@
 -- What each way through the code says of line 1 and of the whole text.
 use mathlib.Core.Path.{_≡_, refl, sym, ap, ap₂, _∙_}
-use mathlib.Core.Bool.{Bool, true, false}
-use mathlib.Core.List.{List, [], _∷_, _++_}
-use Prim.Native.Nat.{ℕ, zero, suc, _+_, _-_, _*_, _≤_, _<_}
+use mathlib.Core.Bool.{Bool, true, false, cond}
+use mathlib.Core.List.{List, [], _∷_}
+use Prim.Native.Nat.{ℕ, _+_, _-_, _*_, _≤_, _<_}
 use native.Mathlib.Omega.{arith}
 use native.Mathlib.Nat.{sub-zero}
 use borrow.Author.Tests.{le-leb, lt-leb}
@@ -19,17 +19,17 @@ use Rattle.text.specs.declared.internal.lines.Rows.the-variants as lines
 use Rattle.text.specs.declared.internal.lines.Reading.the-variants as whole
 use Rattle.text.specs.Parts.{firstFrom, parts}
 use Rattle.text.specs.Names.{areNames}
-use Rattle.text.specs.Text.{Head, wrong, head, headed, firstLine, headOf, namesIn, rowsFrom, Reading, fault, balance, balanced, afterHead, reading}
-use Rattle.text.specs.Code.{countIf, namesOf, Few, rowsAre, Headed, readingIs}
+use Rattle.text.specs.Text.{wrong, head, firstLine, headOf, namesIn, rowsFrom, fault, balance, balanced, reading}
+use Rattle.text.specs.Code.{namesOf, Few, rowsAre, Headed, readingIs}
 use Rattle.text.proofs.Parts.{parts-at, parts-none, parts-some}
 use Rattle.text.proofs.Lines.{row-after}
 
 -- ---- a line of names, from the answer of its reader
-count-is : {n : ℕ} (b : Bool) (m : ℕ) → countIf b m ≡ names.Count n → (b ≡ true) × (n ≡ m)
+count-is : {n : ℕ} (b : Bool) (m : ℕ) → cond b (names.Count m) names.Faulty ≡ names.Count n → (b ≡ true) × (n ≡ m)
 count-is true m e = (refl, sym (cc e))
 count-is false m e = let z : _≡_ {A = ℕ} 0 1 = cc in absurd (omega arith)
 
-count-not : (b : Bool) (m : ℕ) → countIf b m ≡ names.Faulty → b ≡ false
+count-not : (b : Bool) (m : ℕ) → cond b (names.Count m) names.Faulty ≡ names.Faulty → b ≡ false
 count-not true m e = let z : _≡_ {A = ℕ} 0 1 = cc in absurd (omega arith)
 count-not false m e = refl
 
@@ -45,11 +45,11 @@ module _ (s : List ℕ) where
     head-unended f = rw (le-leb (length s) 65536 h, parts-none s 0 10 f)
 
     module _ {e : ℕ} (f : firstFrom s 0 10 ≡ At e) where
-      head-by : headOf s ≡ headed (areNames (parts 59 (take e s))) (take e s) (parts 10 (drop (e + 1) s))
+      head-by : headOf s ≡ cond (areNames (parts 59 (take e s))) (head (take e s) (parts 10 (drop (e + 1) s))) (wrong 1)
       unfolding headOf firstLine
       head-by = rw (le-leb (length s) 65536 h, parts-at s 0 10 e f, sub-zero e) (more (parts 10 (drop (e + 1) s)) (parts-some 10 (drop (e + 1) s)))
         where
-          more : (ps : List (List ℕ)) → 1 ≤ length ps → firstLine (take e s ∷ ps) ≡ headed (areNames (parts 59 (take e s))) (take e s) ps
+          more : (ps : List (List ℕ)) → 1 ≤ length ps → firstLine (take e s ∷ ps) ≡ cond (areNames (parts 59 (take e s))) (head (take e s) ps) (wrong 1)
           more [] k = absurd (omega arith)
           more (p ∷ ps) k = refl
 

@@ -1,6 +1,6 @@
 -- One turn of each loop over names: over the bytes of a name, over the parts that may repeat it, over the names of a line.
 use mathlib.Core.Path.{_≡_, refl, sym, _∙_}
-use mathlib.Core.Bool.{Bool, true, false, _&&_, _||_}
+use mathlib.Core.Bool.{Bool, true, false, cond, _&&_, _||_}
 use mathlib.Core.List.{List, [], _∷_}
 use Prim.Native.Nat.{ℕ, suc, _+_, _-_, _≤_, _<_}
 use native.Mathlib.Numerals.{add-one}
@@ -18,7 +18,7 @@ use Rattle.text.specs.Parts.{firstFrom, parts}
 use Rattle.text.specs.Number.{isDigit}
 use Rattle.text.specs.Names.{nameByte, allBytes, isName, same, among, eachName, areNames}
 use Rattle.text.specs.Text.{namesIn}
-use Rattle.text.specs.Code.{countIf, namesOf}
+use Rattle.text.specs.Code.{namesOf}
 use Rattle.text.proofs.Parts.{parts-none, parts-at, parts-some}
 
 -- ---- the bytes of a name
@@ -131,7 +131,7 @@ module _ (s name : List ℕ) (at : ℕ) where
 -- ---- the names of a line
 -- what a line is, after n names that differ from each part after them, by the parts that are left
 unfoldable pub counted : (n : ℕ) → List (List ℕ) → Names
-counted n ps = countIf (leb (n + length ps) 32 && eachName ps) (n + length ps)
+counted n ps = cond (leb (n + length ps) 32 && eachName ps) (Count (n + length ps)) Faulty
 
 and-no : (t : Bool) → (t && false) ≡ false
 and-no true = refl

@@ -1,17 +1,16 @@
 -- One turn of the search, and what it finds says of the parts between the bytes sought.
-use mathlib.Core.Path.{_≡_, refl, sym, ap, _∙_}
+use mathlib.Core.Path.{_≡_, refl, sym, _∙_}
 use mathlib.Core.Bool.{Bool, true, false}
 use mathlib.Core.List.{List, [], _∷_}
-use Prim.Native.Nat.{ℕ, zero, suc, _+_, _-_, _≤_, _<_}
+use Prim.Native.Nat.{ℕ, suc, _+_, _-_, _≤_, _<_}
 use native.Mathlib.Numerals.{add-one}
 use native.Mathlib.Omega.{arith}
 use borrow.Author.Tests.{eq-eqb, ne-eqb}
 use lib.Dec.{eqb}
 use lib.ListN.{length, getD, take, drop, length-drop, drop-of-length-le}
 use lib.Seq.{drop-cons, drop-drop, take-all}
-use Rattle.text.specs.declared.internal.search.Found.{Found}
 use Rattle.text.specs.declared.internal.search.Found.the-variants.{At, Nothing}
-use Rattle.text.specs.Parts.{pick, firstIn, firstFrom, longer, parts}
+use Rattle.text.specs.Parts.{firstIn, firstFrom, longer, parts}
 
 module _ (s : List ℕ) (b i : ℕ) where
   pub there : i < length s → getD s i 0 ≡ b → firstFrom s i b ≡ At i

@@ -1,5 +1,5 @@
 -- What each way through the code says of a vat's name.
-use mathlib.Core.Path.{_≡_, refl, sym, ap, _∙_}
+use mathlib.Core.Path.{_≡_, sym, ap, _∙_}
 use mathlib.Core.List.{List, []}
 use Prim.Native.Nat.{ℕ, _+_, _-_, _≤_, _<_}
 use native.Mathlib.Omega.{arith}
@@ -10,7 +10,7 @@ use lib.Seq.{length-take-le}
 use Rattle.text.specs.declared.internal.lines.Heading.{Heading}
 use Rattle.text.specs.Parts.{parts, part, startOf}
 use Rattle.text.specs.Text.{wrong, headOf, namesIn}
-use Rattle.text.specs.Call.{Span, nowhere, nameSpan}
+use Rattle.text.specs.Call.{nowhere, nameSpan}
 use Rattle.text.specs.Code.{Headed}
 
 module _ (s : List ℕ) (v : ℕ) where

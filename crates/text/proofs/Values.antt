@@ -1,9 +1,7 @@
 -- What each way through the code says of a value and of a line of values.
-use mathlib.Core.Path.{_≡_, refl, sym, ap, ap₂, _∙_}
-use mathlib.Core.Bool.{Bool, true, false}
+use mathlib.Core.Path.{_≡_, refl, sym, ap, _∙_}
 use mathlib.Core.List.{List, [], _∷_, _++_, append-nil, append-assoc}
-use Prim.Native.Nat.{ℕ, zero, suc, _+_, _-_, _*_, _≤_, _<_}
-use native.Mathlib.Numerals.{add-one}
+use Prim.Native.Nat.{ℕ, suc, _+_, _-_, _*_, _≤_, _<_}
 use native.Mathlib.Omega.{arith}
 use lib.IntN.{ℤ}
 use lib.ListN.{length, take, drop, set, length-set}
@@ -13,10 +11,9 @@ use mir.Val.{SFits, toZ, ofZ}
 use mir.ValLaws.{toZ-ofZ}
 use Rattle.interval.specs.declared.Interval.{Interval}
 use Rattle.inputs.specs.Place.{put}
-use Rattle.text.specs.declared.internal.search.Found.{Found}
 use Rattle.text.specs.declared.internal.search.Found.the-variants.{At, Nothing}
 use Rattle.text.specs.declared.internal.number.Number.{Number}
-use Rattle.text.specs.declared.internal.number.Number.the-variants.{Units, Malformed}
+use Rattle.text.specs.declared.internal.number.Number.the-variants.{Units}
 use Rattle.text.specs.Parts.{firstFrom, parts}
 use Rattle.text.specs.Number.{number, Read, unread, read, twoEnds, value, then, values}
 use Rattle.text.proofs.Parts.{parts-at, parts-none, parts-some, to-end}

@@ -1,7 +1,7 @@
 -- The two calls over a text: its numbers, and a vat's name.
-use mathlib.Core.Bool.{Bool, true, false, _&&_}
+use mathlib.Core.Bool.{cond, _&&_}
 use mathlib.Core.List.{List, [], _∷_, _++_}
-use Prim.Native.Nat.{ℕ, _+_, _-_, _*_}
+use Prim.Native.Nat.{ℕ, _+_, _-_}
 use lib.Dec.{leb}
 use lib.IntN.{ℤ}
 use lib.ListN.{length, drop}
@@ -60,14 +60,11 @@ pub record Span : Type 0 where
 abbrev pub nowhere : Span
 nowhere = record { start = 0; size = 0 }
 
-abbrev pub ifNumbered : Bool → Span → Span
-ifNumbered true s = s
-ifNumbered false s = nowhere
-
 -- 'if the text is too long, line 1 is faulty or the vat number is outside 1 to n'; line 1 begins where the text begins
 abbrev pub nameUnder : Head → (component : ℕ) → Span
 nameUnder (wrong k) v = nowhere
-nameUnder (head l ls) v = ifNumbered (leb 1 v && leb v (namesIn l)) (record { start = startOf (parts 59 l) (v - 1); size = length (part (parts 59 l) (v - 1)) })
+nameUnder (head l ls) v =
+    cond (leb 1 v && leb v (namesIn l)) (record { start = startOf (parts 59 l) (v - 1); size = length (part (parts 59 l) (v - 1)) }) nowhere
 
 unfoldable pub nameSpan : List ℕ → (component : ℕ) → Span
 nameSpan text v = nameUnder (headOf text) v

@@ -1,6 +1,6 @@
 -- What functions beneath the calls promise each other; no public promise rests on these.
 use mathlib.Core.Path.{_≡_}
-use mathlib.Core.Bool.{Bool, true, false}
+use mathlib.Core.Bool.{Bool, true, false, cond}
 use mathlib.Core.List.{List, [], _∷_}
 use Prim.Native.Nat.{ℕ, _+_, _*_, _≤_, _<_}
 use lib.IntN.{ℤ}
@@ -38,12 +38,8 @@ short (magnitude.Digits m) = m ≤ 9999999999
 short magnitude.Other = Unit
 
 -- ---- a line of names
-abbrev pub countIf : Bool → ℕ → Names
-countIf true n = names.Count n
-countIf false n = names.Faulty
-
 unfoldable pub namesOf : List ℕ → Names
-namesOf l = countIf (areNames (parts 59 l)) (text.namesIn l)
+namesOf l = cond (areNames (parts 59 l)) (names.Count (text.namesIn l)) names.Faulty
 
 -- 32 names at most, of 16 bytes at most, and the bytes between them
 abbrev pub Few : List ℕ → Names → Type 0

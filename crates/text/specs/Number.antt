@@ -1,5 +1,5 @@
 -- Document 01, The cellar text: 'A value is lower ':' upper in units, decimal, an optional '-', 1 to 10 digits, no needless leading zero and no '-0'.'
-use mathlib.Core.Bool.{Bool, true, false, cond, not, _&&_, _||_}
+use mathlib.Core.Bool.{Bool, cond, not, _&&_, _||_}
 use mathlib.Core.List.{List, [], _∷_, _++_}
 use Prim.Native.Nat.{ℕ, zero, suc, _+_, _-_, _*_}
 use lib.Dec.{eqb, leb}
@@ -17,21 +17,17 @@ use Rattle.text.specs.Parts.{firstFrom}
 unfoldable pub isDigit : ℕ → Bool
 isDigit b = leb 48 b && leb b 57
 
-abbrev pub orOther : Bool → Magnitude → Magnitude
-orOther true m = m
-orOther false m = Other
-
 -- v and then these digits
 unfoldable pub digits : List ℕ → (v : ℕ) → Magnitude
 digits [] v = Digits v
-digits (b ∷ s) v = orOther (isDigit b) (digits s (v * 10 + (b - 48)))
+digits (b ∷ s) v = cond (isDigit b) (digits s (v * 10 + (b - 48))) Other
 
 -- a leading zero stands alone
 unfoldable pub plain : List ℕ → Bool
 plain s = not (eqb (getD s 0 0) 48) || eqb (length s) 1
 
 unfoldable pub magnitude : List ℕ → Magnitude
-magnitude s = orOther (leb 1 (length s) && (leb (length s) 10 && plain s)) (digits s 0)
+magnitude s = cond (leb 1 (length s) && (leb (length s) 10 && plain s)) (digits s 0) Other
 
 -- with a '-' before it: nought has none
 unfoldable pub below : ℕ → Number
@@ -46,13 +42,9 @@ abbrev pub negative : Magnitude → Number
 negative (Digits m) = below m
 negative Other = Malformed
 
-abbrev pub either : Bool → Number → Number → Number
-either true a b = a
-either false a b = b
-
 unfoldable pub number : List ℕ → Number
 number [] = Malformed
-number (b ∷ s) = either (eqb b 45) (negative (magnitude s)) (unsigned (magnitude (b ∷ s)))
+number (b ∷ s) = cond (eqb b 45) (negative (magnitude s)) (unsigned (magnitude (b ∷ s)))
 
 -- the numbers that bytes stand for, in sequence, or none
 pub data Read : Type 0 where

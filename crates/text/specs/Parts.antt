@@ -1,5 +1,5 @@
 -- Where a byte is found in a list of bytes, and the parts between such bytes.
-use mathlib.Core.Bool.{Bool, true, false, cond}
+use mathlib.Core.Bool.{cond}
 use mathlib.Core.List.{List, [], _∷_}
 use Prim.Native.Nat.{ℕ, zero, suc, _+_}
 use lib.Dec.{eqb}
@@ -7,14 +7,10 @@ use lib.ListN.{length, drop}
 use Rattle.text.specs.declared.internal.search.Found.{Found}
 use Rattle.text.specs.declared.internal.search.Found.the-variants.{At, Nothing}
 
-abbrev pub pick : Bool → Found → Found → Found
-pick true a b = a
-pick false a b = b
-
 -- the first b in a list whose first byte has the place i
 unfoldable pub firstIn : List ℕ → (b i : ℕ) → Found
 firstIn [] b i = Nothing
-firstIn (x ∷ xs) b i = pick (eqb x b) (At i) (firstIn xs b (i + 1))
+firstIn (x ∷ xs) b i = cond (eqb x b) (At i) (firstIn xs b (i + 1))
 
 -- the place of the first b in s, from a place on
 unfoldable pub firstFrom : List ℕ → (from b : ℕ) → Found

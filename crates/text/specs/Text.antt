@@ -1,6 +1,6 @@
 -- Document 01, The cellar text: 'Line 1: n names. Then n lines of B and one line of b, each with n values in the sequence of the names. Each line ends with byte 10; there are n+2 lines.'
 -- 'Number 8 names the first faulty line, from 1; a missing line counts as faulty, and so do a surplus line and an unended one.'
-use mathlib.Core.Bool.{Bool, true, false}
+use mathlib.Core.Bool.{cond}
 use mathlib.Core.List.{List, [], _∷_, _++_}
 use Prim.Native.Nat.{ℕ, zero, suc, _+_, _*_}
 use lib.Dec.{leb}
@@ -18,22 +18,14 @@ pub data Head : Type 0 where
   wrong : (line : ℕ) → Head
   head : (names : List ℕ) → (rest : List (List ℕ)) → Head
 
-abbrev pub headed : Bool → List ℕ → List (List ℕ) → Head
-headed true l rest = head l rest
-headed false l rest = wrong 1
-
 unfoldable pub firstLine : List (List ℕ) → Head
 firstLine [] = wrong 1
 firstLine (l ∷ []) = wrong 1
-firstLine (l ∷ (r ∷ rs)) = headed (areNames (parts 59 l)) l (r ∷ rs)
-
-abbrev pub ifShort : Bool → Head → Head
-ifShort true h = h
-ifShort false h = wrong 0
+firstLine (l ∷ (r ∷ rs)) = cond (areNames (parts 59 l)) (head l (r ∷ rs)) (wrong 1)
 
 -- 'A text above 65,536 bytes gives place 0, before any line is judged'
 unfoldable pub headOf : List ℕ → Head
-headOf text = ifShort (leb (length text) 65536) (firstLine (parts 10 text))
+headOf text = cond (leb (length text) 65536) (firstLine (parts 10 text)) (wrong 0)
 
 unfoldable pub namesIn : List ℕ → ℕ
 namesIn l = length (parts 59 l)

@@ -1,4 +1,4 @@
-use mathlib.Core.Path.{subst, _∙_}
+use mathlib.Core.Path.{subst}
 use borrow.Author.Needs.{needs}
 use Rattle.text.specs.Code.{Fits}
 use Rattle.text.proofs.Handed.{answer-filled, answer-faulty}

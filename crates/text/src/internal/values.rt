@@ -5,7 +5,7 @@ use crate::internal::search::search;
 use inputs::internal::write;
 use interval::Interval;
 ghost use mathlib.Core.Path.{_≡_};
-ghost use Prim.Native.Nat.{_+_, _*_, _≤_, _<_};
+ghost use Prim.Native.Nat.{_+_, _*_, _≤_};
 ghost use lib.ListN.{length, take};
 ghost use Rattle.text.specs.Parts.{parts};
 ghost use Rattle.text.specs.Number.{twoEnds, value, then, read, values};

@@ -1,8 +1,7 @@
-use mathlib.Core.Path.{_≡_, subst, sym, ap, _∙_}
+use mathlib.Core.Path.{subst, _∙_}
 use native.Mathlib.Omega.{arith}
 use borrow.Author.Needs.{needs}
-use lib.ListN.{take}
-use Rattle.text.specs.Code.{Heads, Headed, rowsAre}
+use Rattle.text.specs.Code.{Heads, Headed}
 use Rattle.text.proofs.Head.{text-head, text-faulty, text-balance}
 use Rattle.text.proofs.internal.lines.read_text.Statement.{statement}
 use Rattle.text.proofs.internal.lines.read_text.Tie as tie

@@ -4,8 +4,6 @@ use borrow.Author.Needs.{needs}
 use Rattle.text.proofs.Values.{ends-kept}
 use Rattle.text.proofs.internal.values.both_ends.Statement.{statement}
 use Rattle.text.proofs.internal.values.both_ends.Tie as tie
-use Rattle.text.proofs.internal.values.both_ends.Reads as reads
-use Rattle.text.proofs.internal.values.both_ends.Lts as lts
 
 enum-known-lower : tie.Need-enum-known-lower
 enum-known-lower c = search needs

@@ -1,4 +1,4 @@
-use mathlib.Core.Path.{_≡_, sym, ap, _∙_}
+use mathlib.Core.Path.{sym, ap, _∙_}
 use Prim.Native.Nat.{_+_, _*_}
 use borrow.Author.Needs.{needs}
 use lib.ListN.{take}
@@ -7,10 +7,6 @@ use Rattle.text.specs.Code.{readOf}
 use Rattle.text.proofs.Values.{placed, not-placed}
 use Rattle.text.proofs.internal.values.place_value.Statement.{statement}
 use Rattle.text.proofs.internal.values.place_value.Tie as tie
-use Rattle.text.proofs.internal.values.place_value.Reads as reads
-use Rattle.text.proofs.internal.values.place_value.Lts as lts
-use Rattle.inputs.proofs.internal.write.Reads as write-reads
-use Rattle.text.proofs.internal.values.value_of.Reads as value-of-reads
 
 value-of-requires : tie.Need-value-of-requires
 value-of-requires c κs = search needs

@@ -7,7 +7,7 @@ use borrow.Author.Needs.{needs}
 use borrow.Author.Tests.{not-true, not-false}
 use lib.IntN.{ℤ}
 use lib.ListN.{length, take, drop}
-use Rattle.text.specs.declared.internal.search.Found.the-variants.{At, Nothing}
+use Rattle.text.specs.declared.internal.search.Found.the-variants.{At}
 use Rattle.text.specs.Parts.{firstFrom, parts}
 use Rattle.text.specs.Number.{read, value, then, values}
 use Rattle.text.specs.Code.{onlyIf}

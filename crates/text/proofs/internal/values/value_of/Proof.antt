@@ -1,4 +1,4 @@
-use mathlib.Core.Path.{_≡_, sym, _∙_}
+use mathlib.Core.Path.{sym, _∙_}
 use Prim.Native.Nat.{_<_}
 use native.Mathlib.Omega.{arith}
 use borrow.Author.Needs.{needs}
@@ -7,11 +7,6 @@ use lib.Seq.{length-take-le}
 use Rattle.text.proofs.Values.{value-none, value-ends}
 use Rattle.text.proofs.internal.values.value_of.Statement.{statement}
 use Rattle.text.proofs.internal.values.value_of.Tie as tie
-use Rattle.text.proofs.internal.values.value_of.Reads as reads
-use Rattle.text.proofs.internal.values.value_of.Lts as lts
-use Rattle.text.proofs.internal.number.number_of.Reads as number-of-reads
-use Rattle.text.proofs.internal.search.search.Reads as search-reads
-use Rattle.text.proofs.internal.values.both_ends.Reads as both-ends-reads
 
 -- the ':' stands in the field
 found : (a : tie.After-c) → a .c .given .0 .0 < length (a .before .before .before .before .args .field .now)
