@@ -1,4 +1,4 @@
-// Reads a cellar text from standard input and prints its sheet. A failed read prints no sheet.
+// Reads a cellar text from standard input and prints its sheet. A failed read prints no sheet; a failed read or write is said on standard error.
 use libc::STDERR_FILENO;
 use libc::STDIN_FILENO;
 use libc::STDOUT_FILENO;
@@ -36,7 +36,9 @@ fn main() {
             let mut out = [0u8; 2048];
             let w = report::report(&text[..n], &mut out);
             let count = w.count;
-            io::write_all(STDOUT_FILENO, &out[..count]);
+            if !io::write_all(STDOUT_FILENO, &out[..count]) {
+                io::write_all(STDERR_FILENO, b"balance: the sheet cannot be written\n");
+            }
         }
         Input::Failed => {
             io::write_all(STDERR_FILENO, b"balance: standard input cannot be read\n");
