@@ -12,6 +12,8 @@ pub mod plan;
 pub mod reference;
 pub mod samples;
 pub mod text_case;
+#[cfg(feature = "archive")]
+pub mod wrapper;
 
 #[cfg(test)]
 mod mutants;

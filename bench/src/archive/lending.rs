@@ -5,9 +5,9 @@ use crate::reference::Outcome;
 #[repr(C)]
 #[derive(Clone, Copy, Debug, PartialEq, Eq)]
 pub struct KifwalebOutcome {
-    number: u64,
-    place: u64,
-    count: u64,
+    pub number: u64,
+    pub place: u64,
+    pub count: u64,
 }
 
 impl From<KifwalebOutcome> for Outcome {
@@ -25,7 +25,7 @@ impl From<KifwalebOutcome> for Outcome {
 macro_rules! declare {
     ($($function:ident($($further:ident: $kind:ty)*);)*) => {
         extern "C" {
-            $(fn $function(
+            $(pub(crate) fn $function(
                 n: usize,
                 matrix: *const i64,
                 matrix_len: usize,

@@ -3,7 +3,7 @@
 #[cfg(feature = "elimination")]
 pub mod elimination;
 #[cfg(feature = "elimination")]
-mod lending;
+pub(crate) mod lending;
 #[cfg(feature = "report")]
 pub mod report;
 pub mod steps;

@@ -4,7 +4,7 @@ use super::lending::KifwalebOutcome;
 use crate::reference::Outcome;
 
 extern "C" {
-    fn kifwaleb_report(
+    pub(crate) fn kifwaleb_report(
         text: *const u8,
         text_len: usize,
         out: *mut u8,

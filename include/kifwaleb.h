@@ -1,0 +1,199 @@
+/*
+ * Kifwaleb: bounds on one farm's milk through a loop of vats.
+ *
+ * The calls of the archive target/staticlib/libcapi.a, which 'rt staticlib capi'
+ * makes. It is for x86-64 Linux.
+ *
+ * THE INTERFACE IS NOT FROZEN. A later request adds a slice of load-cell
+ * readings to the two eliminations and to the sweep. Header and archive must
+ * come from the same version: C does not notice if they do not.
+ *
+ * Numbers are counts of units of one millionth: of a whole for shares, of a
+ * tonne (so one gram) for weights. An interval is two of them, lower end then
+ * upper end, lower not above upper, both from -2,000,000,000 to 2,000,000,000;
+ * these limits are 'the range' below. With n vats a matrix is 2*n*n numbers, row
+ * by row, and a right side or a box 2*n numbers. Vats, rows and lines are
+ * numbered from 1.
+ *
+ * A slice is passed as a pointer and a length, which counts numbers or bytes.
+ * All numbers, lengths and texts are tested: a wrong one is refused with a number
+ * and a place, and no refusal changes anything that was lent. Pointers cannot be
+ * tested. It is the caller who sees to it that
+ * - no pointer is null, also with length 0, and each is aligned for its type;
+ * - as many numbers or bytes as the length says lie there, all of them set, also
+ *   in a slice that a call only writes;
+ * - a slice without 'const' has no byte in common with another slice of the call;
+ *   two slices with 'const' may be the same;
+ * - nobody else writes to a lent slice before the call returns, nor reads one
+ *   without 'const'. For a mapped file this means other processes too, and that
+ *   nobody shortens it.
+ *
+ * No call allocates memory, waits, or keeps anything for the next call. The most
+ * stack is taken by kifwaleb_report, about 35 kB.
+ */
+#ifndef KIFWALEB_H
+#define KIFWALEB_H
+
+#include <stddef.h>
+#include <stdint.h>
+
+#ifdef __cplusplus
+extern "C" {
+#endif
+
+/* One whole, or one tonne, in units. */
+#define KIFWALEB_SCALE 1000000
+
+/* The ends of the range, in units. */
+#define KIFWALEB_LOWEST (-2000000000)
+#define KIFWALEB_HIGHEST 2000000000
+
+/* The most vats, and the most sweeps that may be allowed to one call. */
+#define KIFWALEB_MOST_VATS 32
+#define KIFWALEB_MOST_SWEEPS 10000
+
+/* The bytes of a lent sheet: exactly so many. */
+#define KIFWALEB_SHEET_LENGTH 2048
+
+/* What 'number' says. All but DONE and SPENT are refusals. */
+enum KifwalebNumber {
+    /* Done, or settled; the result is written. Place 0. */
+    KIFWALEB_DONE = 0,
+    /* The number of vats is 0 or above 32. Place 0. */
+    KIFWALEB_SIZE = 1,
+    /* A slice has the wrong length. Place 1 the matrix, 2 the right side, 3 the
+     * box or the sheet; the lowest if there are several. */
+    KIFWALEB_LENGTH = 2,
+    /* An interval has its ends out of sequence or out of the range. The place is
+     * the first such interval, counted from 0 through matrix, right side and
+     * start box; in a single step the operand, 0 or 1. */
+    KIFWALEB_ENDS = 3,
+    /* The sweeps allowed are 0 or above 10,000. Place 0. */
+    KIFWALEB_ALLOWED = 4,
+    /* The divisor contains 0, its ends included. The place is the pivot; in a
+     * single step 0. */
+    KIFWALEB_CONTAINS_ZERO = 5,
+    /* A result is out of the range. The place is the row; in a single step 0. */
+    KIFWALEB_OUT_OF_RANGE = 6,
+    /* The start box holds no solution. The place is the vat at which that was
+     * found. */
+    KIFWALEB_EMPTY = 7,
+    /* The text is not as described. No call returns it: on a sheet it says
+     * 'refused 8' and the first faulty line, or 0 if the text is too long. */
+    KIFWALEB_TEXT = 8,
+    /* The last sweep allowed still changed the box; the box is written, and more
+     * sweeps might tighten it. Place 0. */
+    KIFWALEB_SPENT = 9
+};
+
+/* What a single step answers. lo and hi are the result; on a refusal both are 0. */
+typedef struct KifwalebStep {
+    uint64_t number;
+    uint64_t place;
+    int64_t lo;
+    int64_t hi;
+} KifwalebStep;
+
+/* What any other call answers. The count is of whole sweeps, or of the bytes of a
+ * sheet; it is 0 for an elimination. */
+typedef struct KifwalebOutcome {
+    uint64_t number;
+    uint64_t place;
+    uint64_t count;
+} KifwalebOutcome;
+
+/*
+ * The exact sum of the intervals a and b.
+ * DONE with the sum; else ENDS (place 0 for a, 1 for b) or OUT_OF_RANGE,
+ * whichever comes first in this sequence.
+ */
+KifwalebStep kifwaleb_sum(int64_t a_lo, int64_t a_hi, int64_t b_lo, int64_t b_hi);
+
+/*
+ * The exact difference, a less b.
+ * Outcomes as for the sum.
+ */
+KifwalebStep kifwaleb_difference(int64_t a_lo, int64_t a_hi, int64_t b_lo, int64_t b_hi);
+
+/*
+ * The narrowest interval with ends in units that holds every product of a number
+ * in a and one in b.
+ * Outcomes as for the sum.
+ */
+KifwalebStep kifwaleb_product(int64_t a_lo, int64_t a_hi, int64_t b_lo, int64_t b_hi);
+
+/*
+ * The narrowest interval with ends in units that holds every quotient of a number
+ * in a by one in b.
+ * DONE with the quotient; else ENDS (place 0 for a, 1 for b), CONTAINS_ZERO if b
+ * contains 0, or OUT_OF_RANGE, whichever comes first in this sequence.
+ */
+KifwalebStep kifwaleb_quotient(int64_t a_lo, int64_t a_hi, int64_t b_lo, int64_t b_hi);
+
+/*
+ * Bounds on each component of the solutions x of A*x = f, by elimination without
+ * pivot search. Takes n, the matrix a, the right side f, and a box for the bounds;
+ * what the box holds before does not matter.
+ * DONE, and the bounds are written to the box; else the first of
+ *   SIZE;
+ *   LENGTH, the place says which slice;
+ *   ENDS, the place counts through matrix and right side;
+ *   CONTAINS_ZERO with the pivot, or OUT_OF_RANGE with the row, whichever the
+ *   calculation meets first.
+ * The count is 0.
+ */
+KifwalebOutcome kifwaleb_eliminate(size_t n,
+                                   const int64_t *a, size_t a_len,
+                                   const int64_t *f, size_t f_len,
+                                   int64_t *bounds, size_t bounds_len);
+
+/*
+ * Bounds on each component of the solutions x of the balance x = B*x + b. Row i,
+ * column j of the matrix is the share of what passes through vat j that goes on
+ * into vat i; b has each vat's delivery from the farm. The call first forms I - B
+ * and then does as kifwaleb_eliminate.
+ * Outcomes as there, but OUT_OF_RANGE can also mean a row of I - B, and then comes
+ * before any CONTAINS_ZERO.
+ */
+KifwalebOutcome kifwaleb_eliminate_balance(size_t n,
+                                           const int64_t *b_matrix, size_t b_matrix_len,
+                                           const int64_t *b, size_t b_len,
+                                           int64_t *bounds, size_t bounds_len);
+
+/*
+ * Tightens bounds on the solutions of x = B*x + b. Takes n, B and b as above, a
+ * start box, and the number of sweeps allowed, 1 to 10,000. Every solution in the
+ * start box is in the box written, and no bound gets wider.
+ * DONE if settled: the last whole sweep changed nothing. SPENT if the last sweep
+ * allowed still changed a bound. Either writes the box over the start box, and the
+ * count is of the whole sweeps done, the one that changed nothing included. Else
+ * the first of
+ *   SIZE;
+ *   LENGTH, the place says which slice;
+ *   ALLOWED;
+ *   ENDS, the place counts through matrix, right side and start box;
+ *   EMPTY with the vat, and the count is of the whole sweeps before.
+ * The other refusals have count 0.
+ */
+KifwalebOutcome kifwaleb_sweep(size_t n,
+                               const int64_t *b_matrix, size_t b_matrix_len,
+                               const int64_t *b, size_t b_len,
+                               int64_t *bounds, size_t bounds_len,
+                               size_t allowed);
+
+/*
+ * From a cellar text to the sheet that the program 'balance' prints. Takes the
+ * text, of any length and with any bytes, and out, of exactly 2,048 bytes.
+ * DONE, and the sheet is written to the beginning of out: the count is of its
+ * bytes, no byte 0 follows, and what lies past it stays as it was. A text that is
+ * refused has a sheet too, 'refused' with number and place. LENGTH with place 3
+ * if out has another length; then the count is 0.
+ */
+KifwalebOutcome kifwaleb_report(const uint8_t *text, size_t text_len,
+                                uint8_t *out, size_t out_len);
+
+#ifdef __cplusplus
+}
+#endif
+
+#endif
