@@ -8,6 +8,7 @@ pub mod comparison;
 pub mod generator;
 pub mod guarded;
 pub mod list;
+pub mod plain;
 pub mod plan;
 pub mod reference;
 pub mod samples;

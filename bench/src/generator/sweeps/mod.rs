@@ -12,6 +12,7 @@ mod starts;
 
 pub use edges::edge_lists;
 pub use lists::{random_lists, random_lists_up_to};
+pub use slow::settling;
 
 use crate::case::Case;
 use crate::reference::{laid_flat, Interval, System};

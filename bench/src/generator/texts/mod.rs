@@ -14,3 +14,10 @@ mod spellings;
 
 pub use drawn::{random_texts, random_texts_up_to};
 pub use edges::edge_texts;
+
+use crate::case::Case;
+
+/// The text of a balance, its names as long as can be.
+pub fn long_named_text(case: &Case) -> Vec<u8> {
+    draft::Draft::new(names::listed(2, case.n), case).written()
+}

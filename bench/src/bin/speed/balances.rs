@@ -1,0 +1,114 @@
+//! The balances that are calculated, always the same ones.
+
+use kifwaleb_bench::case::Case;
+use kifwaleb_bench::generator::{settling, Random};
+use kifwaleb_bench::plain;
+use kifwaleb_bench::reference::{Interval, Outcome, System, DONE, MOST_SWEEPS};
+
+const ONE: i64 = 1_000_000;
+
+/// More than any call may sweep.
+const CHANGES: i64 = 2 * MOST_SWEEPS as i64;
+
+/// No share is 0, none is negative, and each row comes to less than 0.9.
+pub fn shares(n: usize) -> Case {
+    Case::new(&dense(n, false))
+}
+
+/// The same with both signs, and some shares from below 0 to above 0.
+pub fn mixed(n: usize) -> Case {
+    Case::new(&dense(n, true))
+}
+
+fn dense(n: usize, signed: bool) -> System {
+    let mut random = Random::new(n as u64);
+    let mut balance = System::noughts(n);
+    let cap = 900_000 / n as i64;
+    for i in 1..=n {
+        for j in 1..=n {
+            balance.set_a(i, j, interval(&mut random, signed, cap));
+        }
+        balance.set_f(i, interval(&mut random, signed, 10 * ONE));
+    }
+    balance
+}
+
+/// From a half to the whole of `cap` off 0 and a hundredth of it wide; if
+/// signed, one in eight contains 0.
+fn interval(random: &mut Random, signed: bool, cap: i64) -> Interval {
+    let width = cap / 100;
+    let lo = random.between(cap / 2, cap - width);
+    if !signed {
+        return Interval::new(lo, lo + width);
+    }
+    if random.once_in(8) {
+        return Interval::new(-width, width);
+    }
+    let lo = random.signed(lo);
+    Interval::new(lo, lo + width)
+}
+
+/// With a start box that is a tenth wider on either side than what elimination
+/// gives. A sweep tightens it.
+pub fn with_wide_box(mut case: Case) -> Case {
+    assert_eq!(eliminate(&mut case), Outcome::DONE);
+    for ends in case.bounds.chunks_exact_mut(2) {
+        ends[0] -= ends[0].abs() / 10 + 1;
+        ends[1] += ends[1].abs() / 10 + 1;
+    }
+    case
+}
+
+/// All shares but one are 0. One end moves by one unit in each sweep.
+pub fn slow_noughts(n: usize) -> Case {
+    settling(n, n, CHANGES)
+}
+
+/// The last vat as in `slow_noughts`; the others are dense and settled.
+pub fn slow_dense(n: usize) -> Case {
+    let mut others = shares(n - 1);
+    assert_eq!(eliminate(&mut others), Outcome::DONE);
+    let Case {
+        matrix,
+        right_side,
+        bounds,
+        ..
+    } = &mut others;
+    let settled = plain::sweep(n - 1, matrix, right_side, bounds, MOST_SWEEPS);
+    assert_eq!(settled.number, DONE);
+    let mut case = slow_noughts(n);
+    let rows = case.matrix.chunks_exact_mut(2 * n);
+    for (row, dense) in rows.zip(matrix.chunks_exact(2 * n - 2)) {
+        row[..2 * n - 2].copy_from_slice(dense);
+    }
+    case.right_side[..2 * n - 2].copy_from_slice(right_side);
+    case.bounds[..2 * n - 2].copy_from_slice(bounds);
+    case
+}
+
+/// Every end is below 0 and has ten digits, so that no text of n vats is
+/// longer: I − B has about 1000 everywhere and 2000 on its diagonal.
+pub fn longest(n: usize) -> Case {
+    let mut random = Random::new(n as u64);
+    let mut balance = System::noughts(n);
+    for i in 1..=n {
+        for j in 1..=n {
+            let own = if i == j { 998 * ONE } else { 0 };
+            let hi = -1_000 * ONE - own - random.between(0, ONE / 2);
+            balance.set_a(i, j, Interval::new(hi - random.between(0, 99), hi));
+        }
+        let hi = -1_000 * ONE - random.between(0, 999 * ONE);
+        balance.set_f(i, Interval::new(hi - random.between(0, 99), hi));
+    }
+    Case::new(&balance)
+}
+
+fn eliminate(case: &mut Case) -> Outcome {
+    let Case {
+        n,
+        matrix,
+        right_side,
+        bounds,
+    } = case;
+    plain::eliminate_balance(*n, matrix, right_side, bounds)
+}

@@ -1,0 +1,234 @@
+//! What is done by both sides.
+
+use crate::balances::{longest, mixed, shares, slow_dense, slow_noughts, with_wide_box};
+use kifwaleb_bench::archive;
+use kifwaleb_bench::case::{Case, Slices};
+use kifwaleb_bench::generator::long_named_text;
+use kifwaleb_bench::plain;
+use kifwaleb_bench::reference::{Call, Outcome, DONE, MOST_SWEEPS, SHEET_LENGTH, SPENT};
+use std::hint::black_box;
+
+#[derive(Clone, Copy)]
+pub enum Side {
+    /// The archive.
+    Ours,
+    /// Everyday Rust.
+    Theirs,
+}
+
+#[derive(Clone, Copy)]
+pub enum Kind {
+    EliminateShares,
+    EliminateMixed,
+    SweepShares,
+    SweepMixed,
+    SlowNoughts,
+    SlowDense,
+    ReadLongest,
+    SheetLongest,
+    SheetShares,
+}
+
+impl Kind {
+    pub const ALL: [Kind; 9] = [
+        Kind::EliminateShares,
+        Kind::EliminateMixed,
+        Kind::SweepShares,
+        Kind::SweepMixed,
+        Kind::SlowNoughts,
+        Kind::SlowDense,
+        Kind::ReadLongest,
+        Kind::SheetLongest,
+        Kind::SheetShares,
+    ];
+
+    pub fn name(self) -> &'static str {
+        match self {
+            Kind::EliminateShares => "eliminate-shares",
+            Kind::EliminateMixed => "eliminate-mixed",
+            Kind::SweepShares => "sweep-shares",
+            Kind::SweepMixed => "sweep-mixed",
+            Kind::SlowNoughts => "slow-noughts",
+            Kind::SlowDense => "slow-dense",
+            Kind::ReadLongest => "read-longest",
+            Kind::SheetLongest => "sheet-longest",
+            Kind::SheetShares => "sheet-shares",
+        }
+    }
+}
+
+/// One call with its arguments, to be repeated.
+pub enum Task {
+    /// From B and b.
+    Eliminate(Case),
+    /// The box is set back to `start` before each call.
+    Sweep {
+        lent: Case,
+        start: Vec<i64>,
+        allowed: usize,
+    },
+    Report {
+        text: Vec<u8>,
+        out: Vec<u8>,
+    },
+}
+
+impl Task {
+    pub fn new(kind: Kind, n: usize) -> Task {
+        match kind {
+            Kind::EliminateShares => Task::Eliminate(shares(n)),
+            Kind::EliminateMixed => Task::Eliminate(mixed(n)),
+            Kind::SweepShares => Task::sweep(with_wide_box(shares(n)), 1),
+            Kind::SweepMixed => Task::sweep(with_wide_box(mixed(n)), 1),
+            Kind::SlowNoughts => Task::sweep(slow_noughts(n), MOST_SWEEPS),
+            Kind::SlowDense => Task::sweep(slow_dense(n), MOST_SWEEPS),
+            Kind::ReadLongest => Task::report(&crossed(longest(n))),
+            Kind::SheetLongest => Task::report(&longest(n)),
+            Kind::SheetShares => Task::report(&shares(n)),
+        }
+    }
+
+    fn sweep(lent: Case, allowed: usize) -> Task {
+        Task::Sweep {
+            start: lent.bounds.clone(),
+            lent,
+            allowed,
+        }
+    }
+
+    fn report(case: &Case) -> Task {
+        Task::Report {
+            text: long_named_text(case),
+            out: vec![0; SHEET_LENGTH],
+        }
+    }
+
+    pub fn run(&mut self, side: Side, times: usize) {
+        for _ in 0..times {
+            black_box(self.run_once(side));
+        }
+    }
+
+    fn run_once(&mut self, side: Side) -> Outcome {
+        match self {
+            Task::Eliminate(lent) => side.eliminate(lent.n, slices(black_box(lent))),
+            Task::Sweep {
+                lent,
+                start,
+                allowed,
+            } => {
+                lent.bounds.copy_from_slice(black_box(start));
+                side.sweep(lent.n, slices(lent), *allowed)
+            }
+            Task::Report { text, out } => side.report(black_box(text), out),
+        }
+    }
+
+    /// Both sides must do the same, and what the case is meant to show.
+    pub fn assert_same_answers(&mut self) {
+        let [ours, theirs] = [Side::Ours, Side::Theirs].map(|side| {
+            let outcome = self.run_once(side);
+            (outcome, self.left_behind())
+        });
+        assert!(ours == theirs, "the two sides answer differently");
+        let (number, count) = (ours.0.number, ours.0.count);
+        match self {
+            Task::Sweep { allowed, .. } => assert_eq!((number, count), (SPENT, *allowed as u64)),
+            _ => assert_eq!(number, DONE),
+        }
+    }
+
+    /// The box or the sheet as the last call left it, which is then undone.
+    fn left_behind(&mut self) -> Vec<u8> {
+        match self {
+            Task::Eliminate(lent) | Task::Sweep { lent, .. } => {
+                let bounds = lent.bounds.iter().flat_map(|end| end.to_le_bytes());
+                let left = bounds.collect();
+                lent.bounds.fill(0);
+                left
+            }
+            Task::Report { out, .. } => std::mem::replace(out, vec![0; SHEET_LENGTH]),
+        }
+    }
+}
+
+/// The first interval has its ends out of sequence: the text is read, and the
+/// elimination refuses its numbers.
+fn crossed(mut case: Case) -> Case {
+    case.matrix[0] = case.matrix[1];
+    case.matrix[1] -= 1;
+    case
+}
+
+fn slices(case: &mut Case) -> Slices<'_> {
+    Slices {
+        matrix: &mut case.matrix,
+        right_side: &mut case.right_side,
+        bounds: &mut case.bounds,
+    }
+}
+
+impl Side {
+    fn eliminate(self, n: usize, lent: Slices) -> Outcome {
+        match self {
+            Side::Ours => archive::elimination::call(Call::EliminateBalance, n, lent),
+            Side::Theirs => plain::eliminate_balance(n, lent.matrix, lent.right_side, lent.bounds),
+        }
+    }
+
+    fn sweep(self, n: usize, lent: Slices, allowed: usize) -> Outcome {
+        match self {
+            Side::Ours => archive::sweep::call(n, lent, allowed),
+            Side::Theirs => plain::sweep(n, lent.matrix, lent.right_side, lent.bounds, allowed),
+        }
+    }
+
+    fn report(self, text: &mut [u8], out: &mut [u8]) -> Outcome {
+        match self {
+            Side::Ours => archive::report::call(text, out),
+            Side::Theirs => plain::report(text, out),
+        }
+    }
+}
+
+#[cfg(test)]
+mod tests {
+    use super::*;
+
+    #[test]
+    fn both_sides_answer_alike() {
+        for kind in Kind::ALL {
+            for n in [4, 8, 16, 32] {
+                Task::new(kind, n).assert_same_answers();
+            }
+        }
+    }
+
+    /// The text's length, and the sheet as text.
+    fn reported(kind: Kind) -> (usize, String) {
+        let mut task = Task::new(kind, 32);
+        let count = task.run_once(Side::Theirs).count as usize;
+        let Task::Report { text, out } = task else {
+            panic!("{} is no report", kind.name());
+        };
+        let sheet = out[..count].to_vec();
+        (text.len(), String::from_utf8(sheet).unwrap())
+    }
+
+    /// 32 names of 16 bytes and 33 · 32 values of 23, each with the byte after.
+    #[test]
+    fn the_longest_text_is_read_and_has_a_sheet() {
+        let longest = 32 * 17 + 33 * 32 * 24;
+        let (length, sheet) = reported(Kind::ReadLongest);
+        assert_eq!((length, sheet.as_str()), (longest, "refused 3 0\n"));
+        let (length, sheet) = reported(Kind::SheetLongest);
+        assert_eq!(length, longest);
+        assert!(sheet.ends_with("\nsettled 1\n"), "{sheet}");
+    }
+
+    #[test]
+    fn the_shares_are_swept_more_than_once() {
+        let (_, sheet) = reported(Kind::SheetShares);
+        assert!(sheet.ends_with("\nsettled 19\n"), "{sheet}");
+    }
+}

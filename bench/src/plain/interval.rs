@@ -1,0 +1,143 @@
+//! Intervals in units. No product of two ends, and no sum of 33 such products
+//! in units, leaves 64 bits.
+
+use crate::reference::LIMIT;
+use std::ops::{Add, Sub};
+
+/// One, counted in units.
+pub const ONE: i64 = 1_000_000;
+
+#[derive(Clone, Copy, PartialEq, Eq)]
+pub struct Interval {
+    pub lo: i64,
+    pub hi: i64,
+}
+
+impl Interval {
+    pub const ZERO: Interval = Interval::point(0);
+
+    pub const fn point(value: i64) -> Interval {
+        Interval {
+            lo: value,
+            hi: value,
+        }
+    }
+
+    /// Two numbers, lower then upper.
+    #[inline]
+    pub fn of(ends: &[i64]) -> Interval {
+        Interval {
+            lo: ends[0],
+            hi: ends[1],
+        }
+    }
+
+    #[inline]
+    pub fn is_valid(self) -> bool {
+        -LIMIT <= self.lo && self.lo <= self.hi && self.hi <= LIMIT
+    }
+
+    /// The same interval, unless an end is out of the range.
+    #[inline]
+    pub fn in_range(self) -> Option<Interval> {
+        (-LIMIT <= self.lo && self.hi <= LIMIT).then_some(self)
+    }
+
+    #[inline]
+    pub fn contains_zero(self) -> bool {
+        self.lo <= 0 && 0 <= self.hi
+    }
+
+    /// Rounded outwards to units.
+    #[inline]
+    pub fn product(self, other: Interval) -> Interval {
+        let products = [
+            self.lo * other.lo,
+            self.lo * other.hi,
+            self.hi * other.lo,
+            self.hi * other.hi,
+        ];
+        Interval {
+            lo: floor(least(products), ONE),
+            hi: ceiling(greatest(products), ONE),
+        }
+    }
+
+    /// Rounded outwards to units; `other` must not contain 0.
+    #[inline]
+    pub fn quotient(self, other: Interval) -> Interval {
+        let (lo, hi) = (self.lo * ONE, self.hi * ONE);
+        let floors = [
+            floor(lo, other.lo),
+            floor(lo, other.hi),
+            floor(hi, other.lo),
+            floor(hi, other.hi),
+        ];
+        let ceilings = [
+            ceiling(lo, other.lo),
+            ceiling(lo, other.hi),
+            ceiling(hi, other.lo),
+            ceiling(hi, other.hi),
+        ];
+        Interval {
+            lo: least(floors),
+            hi: greatest(ceilings),
+        }
+    }
+}
+
+impl Add for Interval {
+    type Output = Interval;
+
+    #[inline]
+    fn add(self, other: Interval) -> Interval {
+        Interval {
+            lo: self.lo + other.lo,
+            hi: self.hi + other.hi,
+        }
+    }
+}
+
+impl Sub for Interval {
+    type Output = Interval;
+
+    #[inline]
+    fn sub(self, other: Interval) -> Interval {
+        Interval {
+            lo: self.lo - other.hi,
+            hi: self.hi - other.lo,
+        }
+    }
+}
+
+#[inline]
+fn least([a, b, c, d]: [i64; 4]) -> i64 {
+    a.min(b).min(c.min(d))
+}
+
+#[inline]
+fn greatest([a, b, c, d]: [i64; 4]) -> i64 {
+    a.max(b).max(c.max(d))
+}
+
+#[inline]
+fn floor(numerator: i64, denominator: i64) -> i64 {
+    let quotient = numerator / denominator;
+    let rest = numerator % denominator;
+    if rest != 0 && (rest < 0) != (denominator < 0) {
+        quotient - 1
+    } else {
+        quotient
+    }
+}
+
+#[inline]
+fn ceiling(numerator: i64, denominator: i64) -> i64 {
+    let quotient = numerator / denominator;
+    let rest = numerator % denominator;
+    if rest != 0 && (rest < 0) == (denominator < 0) {
+        quotient + 1
+    } else {
+        quotient
+    }
+}

@@ -1,0 +1,15 @@
+//! The calls of document 01 in everyday Rust, for comparing speed: 64-bit
+//! numbers, four products, floor and ceiling, safe slices. Unlike the
+//! reference it keeps no account of what it did, only of the outcome.
+
+mod elimination;
+mod interval;
+mod lent;
+mod report;
+#[cfg(test)]
+mod sameness;
+mod sweep;
+
+pub use elimination::eliminate_balance;
+pub use report::report;
+pub use sweep::sweep;
