@@ -1,15 +1,15 @@
 -- What a proof of code on `i64` asks of ℤ: a value's range, a value read back from its bits, the machine's quotient against the floor.
-use mathlib.Core.Path.{_≡_}
+use mathlib.Core.Path.{_≡_, refl, _∙_}
 use mathlib.Core.Logic.{_↔_, ⊎-elim}
 use Prim.Native.Nat.{ℕ, zero, suc, _*_, _/_, _%_, _≤_, _<_, _^_}
 use native.Mathlib.Omega.{arith}
 use native.Mathlib.Nat.{div-add-mod, mod-lt, div-le-self}
-use lib.Dec.{ltb→lt, leb→le, le→leb}
-use lib.IntN.{ℤ, pos, negsuc, negℤ, _+ℤ_, _-ℤ_, _*ℤ_}
-use lib.Signed.{_≤ℤ_, _<ℤ_, quotZ, remZ, mag, mag-shr, mag-rem}
+use lib.Dec.{T, ltb→lt, leb→le, le→leb}
+use lib.IntN.{ℤ, pos, negsuc, negℤ, natAbs, _+ℤ_, _-ℤ_, _*ℤ_}
+use lib.Signed.{_≤ℤ_, _<ℤ_, nonNeg, quotZ, remZ, mag, mag-shr, mag-rem}
 use mir.Syntax.{w64}
-use mir.Val.{SFits, ofZ, toZ}
-use mir.ValLaws.{sfits-le, toZ-ofZ}
+use mir.Val.{Fits, SFits, ofZ, toZ}
+use mir.ValLaws.{sfits-le, toZ-ofZ, toZ-pos}
 use Rattle.integer.specs.Rounding.{floorDiv, ceilDiv}
 use Rattle.integer.proofs.Difference.{differences}
 use Rattle.integer.proofs.Linear.{linear, over}
@@ -130,3 +130,27 @@ module _ (a d : ℤ) (fa : SFits w64 a) (fd : SFits w64 d) (h : pos 0 <ℤ d) wh
 
   pub rem-read : toZ w64 (ofZ w64 (remZ (toZ w64 (ofZ w64 a)) (toZ w64 (ofZ w64 d)))) ≡ remZ a d
   rem-read = op-read remZ a d fa fd (rem-fits a d fa)
+
+-- ---- an i64 that is not negative, divided as a u64
+module _ (z : ℤ) (s : ℕ) (f : SFits w64 z) (h : pos 0 ≤ℤ z) where
+  pub natural-cast : T (nonNeg (toZ w64 (ofZ w64 z))) × Fits w64 (natAbs (toZ w64 (ofZ w64 z)))
+  natural-cast = rw (toZ-ofZ w64 z f) (go z f h)
+    where
+      go : (z : ℤ) → SFits w64 z → pos 0 ≤ℤ z → T (nonNeg z) × Fits w64 (natAbs z)
+      go (pos n) f h = (tt, omega (arith, f .sfits))
+      go (negsuc n) f h = absurd (h .le)
+
+  pub natural-part : SFits w64 (pos (natAbs (toZ w64 (ofZ w64 z)) / s))
+  natural-part = rw (toZ-ofZ w64 z f) (go z f h)
+    where
+      go : (z : ℤ) → SFits w64 z → pos 0 ≤ℤ z → SFits w64 (pos (natAbs z / s))
+      go (pos n) f h = sfits-le (div-le-self n s) f
+      go (negsuc n) f h = absurd (h .le)
+
+  pub natural-read : toZ w64 (natAbs (toZ w64 (ofZ w64 z)) / s) ≡ floorDiv z (pos s)
+  unfolding floorDiv
+  natural-read = toZ-pos w64 _ (natural-part .sfits) ∙ rw (toZ-ofZ w64 z f) (go z h)
+    where
+      go : (z : ℤ) → pos 0 ≤ℤ z → pos (natAbs z / s) ≡ floorDiv z (pos s)
+      go (pos n) h = refl
+      go (negsuc n) h = absurd (h .le)

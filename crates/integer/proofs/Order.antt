@@ -112,6 +112,16 @@ prod {a} {b} {c} {d} h k = nonneg-mul (b -ℤ a) (d -ℤ c) (sub-nonneg a b h) (
 pub mono : (a b c : ℤ) → pos 0 ≤ℤ c → a ≤ℤ b → (a *ℤ c) ≤ℤ (b *ℤ c)
 mono = over 3 _ (λ ρ h k. also (prod k h) (simp (linear, ρ) (omega arith)))
 
+pub mono-left : (c a b : ℤ) → pos 0 ≤ℤ c → a ≤ℤ b → (c *ℤ a) ≤ℤ (c *ℤ b)
+mono-left = over 3 _ (λ ρ h k. also (prod k h) (simp (linear, ρ) (omega arith)))
+
+-- a factor that is not positive turns the order
+pub anti : (a b c : ℤ) → c ≤ℤ pos 0 → a ≤ℤ b → (b *ℤ c) ≤ℤ (a *ℤ c)
+anti = over 3 _ (λ ρ h k. also (prod k h) (simp (linear, ρ) (omega arith)))
+
+pub anti-left : (c a b : ℤ) → c ≤ℤ pos 0 → a ≤ℤ b → (c *ℤ b) ≤ℤ (c *ℤ a)
+anti-left = over 3 _ (λ ρ h k. also (prod k h) (simp (linear, ρ) (omega arith)))
+
 pub mono-strict : (a b c : ℤ) → pos 0 <ℤ c → a <ℤ b → (a *ℤ c) <ℤ (b *ℤ c)
 mono-strict = over 3 _ (λ ρ h k. also (prod (next h) (next k)) (also h (also k (simp (linear, ρ) (omega arith)))))
 

@@ -9,8 +9,8 @@ use lib.IntN.{ℤ, pos, negsuc, negℤ, _+ℤ_, _-ℤ_, _*ℤ_, negℤ-negℤ, z
 use lib.Signed.{_≤ℤ_, _<ℤ_, shrZ, clashℤ, <ℤ-≤ℤ-trans}
 use Rattle.integer.specs.Rounding.{floorDiv, ceilDiv}
 use Rattle.integer.proofs.Difference.{differences}
-use Rattle.integer.proofs.Linear.{linear, over}
-use Rattle.integer.proofs.Order.{also, prod, trans, turn-le, turn-lt, whole-below, antisym, lt-le, lt-or-ge, mono}
+use Rattle.integer.proofs.Linear.{linear, reading, ring, over}
+use Rattle.integer.proofs.Order.{trans, turn-le, turn-lt, whole-below, antisym, lt-le, lt-or-ge, mono, mono-left, anti-left}
 
 by-natural : (z : ℤ) (s : ℕ) → 0 < s → ((shrZ z s *ℤ pos s) ≤ℤ z) × (z <ℤ (shrZ z s *ℤ pos s +ℤ pos s))
 by-natural (pos a) s h = simp differences (omega (arith, div-add-mod a s, mod-lt a h))
@@ -116,17 +116,11 @@ module _ (z c d : ℤ) (h : pos 0 <ℤ c) (l : c ≤ℤ d) where
   above = <ℤ-≤ℤ-trans h l
 
   pub floor-falls : pos 0 ≤ℤ z → floorDiv z d ≤ℤ floorDiv z c
-  floor-falls n = floor-iff z c (floorDiv z d) h .1 (trans (less (floorDiv z d) c d (floor-nonneg z d above .1 n) l) (floor-low z d above))
-    where
-      less : (k c d : ℤ) → pos 0 ≤ℤ k → c ≤ℤ d → (k *ℤ c) ≤ℤ (k *ℤ d)
-      less = over 3 _ (λ ρ n l. also (prod n l) (simp (linear, ρ) (omega arith)))
+  floor-falls n = floor-iff z c (floorDiv z d) h .1 (trans (mono-left (floorDiv z d) c d (floor-nonneg z d above .1 n) l) (floor-low z d above))
 
   pub floor-grows : z <ℤ pos 0 → floorDiv z c ≤ℤ floorDiv z d
-  floor-grows n = floor-iff z d (floorDiv z c) above .1 (trans (less (floorDiv z c) c d (negative (lt-or-ge (floorDiv z c) (pos 0))) l) (floor-low z c h))
+  floor-grows n = floor-iff z d (floorDiv z c) above .1 (trans (anti-left (floorDiv z c) c d (negative (lt-or-ge (floorDiv z c) (pos 0))) l) (floor-low z c h))
     where
-      less : (k c d : ℤ) → k ≤ℤ pos 0 → c ≤ℤ d → (k *ℤ d) ≤ℤ (k *ℤ c)
-      less = over 3 _ (λ ρ n l. also (prod n l) (simp (linear, ρ) (omega arith)))
-
       negative : (floorDiv z c <ℤ pos 0) ⊎ (pos 0 ≤ℤ floorDiv z c) → floorDiv z c ≤ℤ pos 0
       negative = ⊎-elim (λ k. lt-le k) (λ k. clashℤ n (floor-nonneg z c h .0 k))
 
@@ -139,3 +133,34 @@ module _ (z c d : ℤ) (h : pos 0 <ℤ c) (l : c ≤ℤ d) where
   pub ceil-grows : z ≤ℤ pos 0 → ceilDiv z c ≤ℤ ceilDiv z d
   unfolding ceilDiv
   ceil-grows n = turn-le (floor-falls (negℤ z) c d h l (turn-le n))
+
+-- k whole divisors more: the floor is k more, so a bias makes any dividend a natural number
+pub floor-biased : (z d k : ℤ) → pos 0 <ℤ d → floorDiv (z +ℤ k *ℤ d) d -ℤ k ≡ floorDiv z d
+floor-biased z d k h =
+    let f = floorDiv (z +ℤ k *ℤ d) d in
+    floor-unique z d (f -ℤ k) h (low f z d k (floor-low (z +ℤ k *ℤ d) d h)) (high f z d k (floor-high (z +ℤ k *ℤ d) d h))
+  where
+    low : (f z d k : ℤ) → (f *ℤ d) ≤ℤ (z +ℤ k *ℤ d) → ((f -ℤ k) *ℤ d) ≤ℤ z
+    low = over 4 _ (λ ρ. simp (linear, ρ) (omega arith))
+
+    high : (f z d k : ℤ) → (z +ℤ k *ℤ d) <ℤ (f *ℤ d +ℤ d) → z <ℤ ((f -ℤ k) *ℤ d +ℤ d)
+    high = over 4 _ (λ ρ. simp (linear, ρ) (omega arith))
+
+-- the ceiling is the floor of what is d − 1 more
+pub ceil-floor : (z d : ℤ) → pos 0 <ℤ d → floorDiv (z +ℤ (d -ℤ pos 1)) d ≡ ceilDiv z d
+ceil-floor z d h =
+    let y = z +ℤ (d -ℤ pos 1) in
+    let f = floorDiv y d in
+    ceil-unique z d f h (high f z d (floor-high y d h)) (low f z d (floor-low y d h))
+  where
+    high : (f z d : ℤ) → (z +ℤ (d -ℤ pos 1)) <ℤ (f *ℤ d +ℤ d) → z ≤ℤ (f *ℤ d)
+    high = over 3 _ (λ ρ. simp (linear, ρ) (omega arith))
+
+    low : (f z d : ℤ) → (f *ℤ d) ≤ℤ (z +ℤ (d -ℤ pos 1)) → (f *ℤ d -ℤ d) <ℤ z
+    low = over 3 _ (λ ρ. simp (linear, ρ) (omega arith))
+
+pub ceil-biased : (z d k : ℤ) → pos 0 <ℤ d → floorDiv (z +ℤ (k *ℤ d +ℤ (d -ℤ pos 1))) d -ℤ k ≡ ceilDiv z d
+ceil-biased z d k h = ap (λ (y : ℤ). floorDiv y d -ℤ k) (regroup z (k *ℤ d) (d -ℤ pos 1)) ∙ floor-biased (z +ℤ (d -ℤ pos 1)) d k h ∙ ceil-floor z d h
+  where
+    regroup : (z a b : ℤ) → z +ℤ (a +ℤ b) ≡ (z +ℤ b) +ℤ a
+    regroup = over 3 _ (λ ρ. simp reading (ring _ _ _ tt))

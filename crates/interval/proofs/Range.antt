@@ -5,13 +5,13 @@ use mathlib.Core.Logic.{_⊎_, inl, inr, ⊎-elim}
 use native.Mathlib.Omega.{arith}
 use lib.Dec.{T}
 use lib.IntN.{ℤ, pos, negsuc, negℤ, _+ℤ_, _-ℤ_, _*ℤ_}
-use lib.Signed.{_≤ℤ_, _<ℤ_, leZ, leZ-yes, ltZ-yes, clashℤ}
+use lib.Signed.{_≤ℤ_, _<ℤ_, ltZ, leZ, leZ-yes, ltZ-yes, clashℤ}
 use mir.Syntax.{w64}
 use mir.Val.{SFits, toZ, ofZ}
 use mir.ValLaws.{toZ-ofZ}
 use Rattle.integer.proofs.Linear.{linear, over}
-use Rattle.integer.proofs.Order.{also, prod, le-taken, le-left, yes-le, turn-le}
-use Rattle.integer.proofs.Machine.{fits64, op-read}
+use Rattle.integer.proofs.Order.{also, prod, lt-le, taken, left, le-taken, le-left, yes-le, turn-le}
+use Rattle.integer.proofs.Machine.{fits64, op-safe, op-read}
 use Rattle.interval.specs.declared.Interval.{Interval}
 use Rattle.interval.specs.Interval.{scale, lowest, highest, within, inRange, acceptable, containsZero, exactSum, exactDifference, negated}
 use Rattle.interval.specs.Size.{Representable}
@@ -102,9 +102,43 @@ within-fits {z} h = go z (h .low) (h .high)
     go : (z : ℤ) → negsuc 1999999999 ≤ℤ z → z ≤ℤ pos 2000000000 → SFits w64 z
     go = over 1 _ (λ ρ. simp (fits64, linear, ρ) (omega arith))
 
--- a product of two ends, as the code has it
-product-read : {a b : ℤ} → Within a → Within b → toZ w64 (ofZ w64 (toZ w64 (ofZ w64 a) *ℤ toZ w64 (ofZ w64 b))) ≡ a *ℤ b
-product-read {a} {b} h k = op-read _*ℤ_ a b (within-fits h) (within-fits k) (product-fits h k)
+-- ---- an end, as the code has it
+module _ {z : ℤ} (h : Within z) where
+  pub read : toZ w64 (ofZ w64 z) ≡ z
+  read = toZ-ofZ w64 z (within-fits h)
+
+  pub within-read : within (toZ w64 (ofZ w64 z)) ≡ true
+  within-read = rw read (within-yes z h)
+
+  pub natural-within : pos 0 ≤ℤ z → (within (toZ w64 (ofZ w64 z)) ≡ true) × (pos 0 ≤ℤ toZ w64 (ofZ w64 z))
+  natural-within n = (within-read, rw read n)
+
+  -- what its sign tests say
+  pub negative-taken : ltZ (toZ w64 (ofZ w64 z)) (pos 0) ≡ true → z ≤ℤ pos 0
+  negative-taken e = lt-le (taken _ _ (rw read at e))
+
+  pub negative-left : ltZ (toZ w64 (ofZ w64 z)) (pos 0) ≡ false → pos 0 ≤ℤ z
+  negative-left e = left _ _ (rw read at e)
+
+  pub above-taken : leZ (pos 0) (toZ w64 (ofZ w64 z)) ≡ true → pos 0 ≤ℤ z
+  above-taken e = le-taken _ _ (rw read at e)
+
+  pub above-left : leZ (pos 0) (toZ w64 (ofZ w64 z)) ≡ false → z ≤ℤ pos 0
+  above-left e = lt-le (le-left _ _ (rw read at e))
+
+  pub below-taken : leZ (toZ w64 (ofZ w64 z)) (pos 0) ≡ true → z ≤ℤ pos 0
+  below-taken e = le-taken _ _ (rw read at e)
+
+  pub below-left : leZ (toZ w64 (ofZ w64 z)) (pos 0) ≡ false → pos 0 ≤ℤ z
+  below-left e = lt-le (le-left _ _ (rw read at e))
+
+-- a product of two ends
+module _ {a b : ℤ} (h : Within a) (k : Within b) where
+  pub product-safe : SFits w64 (toZ w64 (ofZ w64 a) *ℤ toZ w64 (ofZ w64 b))
+  product-safe = op-safe _*ℤ_ a b (within-fits h) (within-fits k) (product-fits h k)
+
+  pub product-read : toZ w64 (ofZ w64 (toZ w64 (ofZ w64 a) *ℤ toZ w64 (ofZ w64 b))) ≡ a *ℤ b
+  product-read = op-read _*ℤ_ a b (within-fits h) (within-fits k) (product-fits h k)
 
 pub scale-above : pos 0 <ℤ scale
 unfolding scale
@@ -117,16 +151,6 @@ scale-within = record { low = leZ-yes tt; high = leZ-yes tt }
 -- an end in parts of a unit, as the code has it
 pub scaled-read : {z : ℤ} → Within z → toZ w64 (ofZ w64 (toZ w64 (ofZ w64 z) *ℤ scale)) ≡ z *ℤ scale
 scaled-read {z} h = rw (toZ-ofZ w64 z (within-fits h)) (toZ-ofZ w64 (z *ℤ scale) (product-fits h scale-within))
-
--- the four products of ends, as the code has them
-pub products-read : (f : ℤ → ℤ → ℤ → ℤ → ℤ) {x y : Interval} → Sound x → Sound y
-    → f (toZ w64 (ofZ w64 (toZ w64 (ofZ w64 (x .lo)) *ℤ toZ w64 (ofZ w64 (y .lo)))))
-    (toZ w64 (ofZ w64 (toZ w64 (ofZ w64 (x .lo)) *ℤ toZ w64 (ofZ w64 (y .hi)))))
-    (toZ w64 (ofZ w64 (toZ w64 (ofZ w64 (x .hi)) *ℤ toZ w64 (ofZ w64 (y .lo)))))
-    (toZ w64 (ofZ w64 (toZ w64 (ofZ w64 (x .hi)) *ℤ toZ w64 (ofZ w64 (y .hi)))))
-    ≡ f (x .lo *ℤ y .lo) (x .lo *ℤ y .hi) (x .hi *ℤ y .lo) (x .hi *ℤ y .hi)
-products-read f h k =
-    λ i. f (product-read (h .lo-in) (k .lo-in) i) (product-read (h .lo-in) (k .hi-in) i) (product-read (h .hi-in) (k .lo-in) i) (product-read (h .hi-in) (k .hi-in) i)
 
 pub sum-representable : {x y : Interval} → Sound x → Sound y → Representable (exactSum x y)
 unfolding exactSum

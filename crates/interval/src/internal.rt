@@ -5,11 +5,11 @@ use integer::internal::max_of;
 use integer::internal::min_of;
 ghost use mathlib.Core.Path.{_≡_};
 ghost use mathlib.Core.Bool.{true, false};
-ghost use lib.IntN.{pos};
+ghost use lib.IntN.{pos, negsuc, _*ℤ_};
 ghost use lib.Signed.{_≤ℤ_, _<ℤ_};
 ghost use Rattle.integer.specs.Rounding.{floorDiv, ceilDiv};
 ghost use Rattle.integer.specs.Extremes.{minimum, maximum};
-ghost use Rattle.interval.specs.Interval.{within, inRange, acceptable, containsZero, exactSum, exactDifference, product, quotient, intersection, least, greatest, negated, isEmpty};
+ghost use Rattle.interval.specs.Interval.{scale, within, inRange, acceptable, containsZero, exactSum, exactDifference, product, quotient, ends, intersection, negated, isEmpty};
 ghost use Rattle.interval.specs.Size.{Representable};
 
 fn within(z: i64) -> bool
@@ -69,19 +69,132 @@ pub fn difference(x: Interval, y: Interval) -> Interval
     Interval { lo, hi }
 }
 
-fn least_of(a: i64, b: i64, c: i64, d: i64) -> i64
-    ensures { λ r. ⌜ r ≡ least a b c d ⌝ }
+// Rounding by the scale is one unsigned division by a constant: BIAS, a multiple of the scale, lifts every product of two ends to 0 or more.
+const SCALE: u64 = 1_000_000;
+
+const BIAS: i64 = 4_000_000_000_000_000_000;
+
+const BIAS_IN_SCALES: i64 = 4_000_000_000_000;
+// One part less than the scale: the ceiling of p / SCALE is the floor of (p + ROUND_UP) / SCALE.
+const ROUND_UP: i64 = 999_999;
+
+const BIAS_AND_ROUND_UP: i64 = BIAS + ROUND_UP;
+
+// p / SCALE rounded down.
+fn scaled_down(p: i64) -> i64
+    requires { ⌜ negsuc 3999999999999999999 ≤ℤ p ⌝ }
+    requires { ⌜ p ≤ℤ pos 4000000000000000000 ⌝ }
+    ensures { λ r. ⌜ r ≡ floorDiv p scale ⌝ }
 {
-    min_of(min_of(a, b), min_of(c, d))
+    let n = (p + BIAS) as u64;
+    let q = (n / SCALE) as i64;
+    q - BIAS_IN_SCALES
 }
 
-fn greatest_of(a: i64, b: i64, c: i64, d: i64) -> i64
-    ensures { λ r. ⌜ r ≡ greatest a b c d ⌝ }
+// p / SCALE rounded up.
+fn scaled_up(p: i64) -> i64
+    requires { ⌜ negsuc 3999999999999999999 ≤ℤ p ⌝ }
+    requires { ⌜ p ≤ℤ pos 4000000000000000000 ⌝ }
+    ensures { λ r. ⌜ r ≡ ceilDiv p scale ⌝ }
 {
-    max_of(max_of(a, b), max_of(c, d))
+    let n = (p + BIAS_AND_ROUND_UP) as u64;
+    let q = (n / SCALE) as i64;
+    q - BIAS_IN_SCALES
 }
 
-// The product, rounded outwards, without a range test.
+// u·v / SCALE rounded down and w·z / SCALE rounded up.
+fn rounded(u: i64, v: i64, w: i64, z: i64) -> Interval
+    requires { ⌜ within u ≡ true ⌝ }
+    requires { ⌜ within v ≡ true ⌝ }
+    requires { ⌜ within w ≡ true ⌝ }
+    requires { ⌜ within z ≡ true ⌝ }
+    ensures { λ r. ⌜ r ≡ ends (floorDiv (u *ℤ v) scale) (ceilDiv (w *ℤ z) scale) ⌝ }
+{
+    let lo = scaled_down(u * v);
+    let hi = scaled_up(w * z);
+    Interval { lo, hi }
+}
+
+// The same of natural numbers: no bias.
+fn rounded_naturals(u: i64, v: i64, w: i64, z: i64) -> Interval
+    requires { ⌜ (within u ≡ true) × (pos 0 ≤ℤ u) ⌝ }
+    requires { ⌜ (within v ≡ true) × (pos 0 ≤ℤ v) ⌝ }
+    requires { ⌜ (within w ≡ true) × (pos 0 ≤ℤ w) ⌝ }
+    requires { ⌜ (within z ≡ true) × (pos 0 ≤ℤ z) ⌝ }
+    ensures { λ r. ⌜ r ≡ ends (floorDiv (u *ℤ v) scale) (ceilDiv (w *ℤ z) scale) ⌝ }
+{
+    let p = (u * v) as u64;
+    let q = (w * z + ROUND_UP) as u64;
+    let lo = (p / SCALE) as i64;
+    let hi = (q / SCALE) as i64;
+    Interval { lo, hi }
+}
+
+// Both operands lie across 0: the one case in which all four products count.
+fn product_of_mixed(x: Interval, y: Interval) -> Interval
+    requires { ⌜ acceptable x ≡ true ⌝ }
+    requires { ⌜ acceptable y ≡ true ⌝ }
+    requires { ⌜ x .lo ≤ℤ pos 0 ⌝ }
+    requires { ⌜ pos 0 ≤ℤ x .hi ⌝ }
+    ensures { λ r. ⌜ r ≡ product x y ⌝ }
+{
+    let a = x.lo;
+    let b = x.hi;
+    let c = y.lo;
+    let d = y.hi;
+    let lo = scaled_down(min_of(a * d, b * c));
+    let hi = scaled_up(max_of(a * c, b * d));
+    Interval { lo, hi }
+}
+
+// The left operand starts below 0: the signs tell which of the four end products are the least and the greatest.
+fn product_from_below(x: Interval, y: Interval) -> Interval
+    requires { ⌜ acceptable x ≡ true ⌝ }
+    requires { ⌜ acceptable y ≡ true ⌝ }
+    requires { ⌜ x .lo ≤ℤ pos 0 ⌝ }
+    ensures { λ r. ⌜ r ≡ product x y ⌝ }
+{
+    let a = x.lo;
+    let b = x.hi;
+    let c = y.lo;
+    let d = y.hi;
+    if b <= 0 {
+        if 0 <= c {
+            return rounded(a, d, b, c);
+        }
+        if d <= 0 {
+            return rounded(b, d, a, c);
+        }
+        return rounded(a, d, a, c);
+    }
+    if 0 <= c {
+        return rounded(a, d, b, d);
+    }
+    if d <= 0 {
+        return rounded(b, c, a, c);
+    }
+    product_of_mixed(x, y)
+}
+
+// The left operand is a natural number, the right one starts below 0.
+fn product_of_natural(x: Interval, y: Interval) -> Interval
+    requires { ⌜ acceptable x ≡ true ⌝ }
+    requires { ⌜ acceptable y ≡ true ⌝ }
+    requires { ⌜ pos 0 ≤ℤ x .lo ⌝ }
+    requires { ⌜ y .lo ≤ℤ pos 0 ⌝ }
+    ensures { λ r. ⌜ r ≡ product x y ⌝ }
+{
+    let a = x.lo;
+    let b = x.hi;
+    let c = y.lo;
+    let d = y.hi;
+    if d <= 0 {
+        return rounded(b, c, a, d);
+    }
+    rounded(b, c, b, d)
+}
+
+// The product, rounded outwards, without a range test. Natural numbers, the common case, take the shortest way.
 pub fn product(x: Interval, y: Interval) -> Interval
     requires { ⌜ acceptable x ≡ true ⌝ }
     requires { ⌜ acceptable y ≡ true ⌝ }
@@ -91,13 +204,13 @@ pub fn product(x: Interval, y: Interval) -> Interval
     let b = x.hi;
     let c = y.lo;
     let d = y.hi;
-    let p = a * c;
-    let q = a * d;
-    let r = b * c;
-    let s = b * d;
-    let lo = floor_div(least_of(p, q, r, s), Interval::SCALE);
-    let hi = ceil_div(greatest_of(p, q, r, s), Interval::SCALE);
-    Interval { lo, hi }
+    if a < 0 {
+        return product_from_below(x, y);
+    }
+    if c < 0 {
+        return product_of_natural(x, y);
+    }
+    rounded_naturals(a, c, b, d)
 }
 
 // The lower of a / near and a / far, rounded down.
