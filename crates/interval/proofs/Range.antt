@@ -107,12 +107,6 @@ module _ {z : ℤ} (h : Within z) where
   pub read : toZ w64 (ofZ w64 z) ≡ z
   read = toZ-ofZ w64 z (within-fits h)
 
-  pub within-read : within (toZ w64 (ofZ w64 z)) ≡ true
-  within-read = rw read (within-yes z h)
-
-  pub natural-within : pos 0 ≤ℤ z → (within (toZ w64 (ofZ w64 z)) ≡ true) × (pos 0 ≤ℤ toZ w64 (ofZ w64 z))
-  natural-within n = (within-read, rw read n)
-
   -- what its sign tests say
   pub negative-taken : ltZ (toZ w64 (ofZ w64 z)) (pos 0) ≡ true → z ≤ℤ pos 0
   negative-taken e = lt-le (taken _ _ (rw read at e))

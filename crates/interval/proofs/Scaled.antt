@@ -13,8 +13,10 @@ use Rattle.integer.proofs.Linear.{linear, over}
 use Rattle.integer.proofs.Order.{also, prod}
 use Rattle.integer.proofs.Rounding.{floor-nonneg}
 use Rattle.integer.proofs.Machine.{fits64, floor-fits, natural-cast, natural-part, natural-read}
-use Rattle.interval.specs.Interval.{lowest, highest}
-use Rattle.interval.proofs.Range.{Within}
+use Rattle.interval.specs.declared.Interval.{Interval}
+use Rattle.interval.specs.Interval.{lowest, highest, leastProduct, greatestProduct}
+use Rattle.interval.proofs.Corners.{least-ind, greatest-ind}
+use Rattle.interval.proofs.Range.{Within, Sound}
 
 -- how large a product of two ends can be
 abbrev pub Bounded : ℤ → Type 0
@@ -26,6 +28,17 @@ product-bounded {a} {b} h k = go a b (h .low) (h .high) (k .low) (k .high)
   where
     go : (a b : ℤ) → negsuc 1999999999 ≤ℤ a → a ≤ℤ pos 2000000000 → negsuc 1999999999 ≤ℤ b → b ≤ℤ pos 2000000000 → (negsuc 3999999999999999999 ≤ℤ (a *ℤ b)) × ((a *ℤ b) ≤ℤ pos 4000000000000000000)
     go = over 2 _ (λ ρ h₁ h₂ k₁ k₂. also (prod h₁ k₁) (also (prod h₁ k₂) (also (prod h₂ k₁) (also (prod h₂ k₂) (simp (linear, ρ) (omega arith))))))
+
+-- so are the least and the greatest of four
+pub least-bounded : {x y : Interval} → Sound x → Sound y → Bounded (leastProduct x y)
+least-bounded v w =
+    least-ind _ _ _ _ Bounded
+    (product-bounded (v .lo-in) (w .lo-in)) (product-bounded (v .lo-in) (w .hi-in)) (product-bounded (v .hi-in) (w .lo-in)) (product-bounded (v .hi-in) (w .hi-in))
+
+pub greatest-bounded : {x y : Interval} → Sound x → Sound y → Bounded (greatestProduct x y)
+greatest-bounded v w =
+    greatest-ind _ _ _ _ Bounded
+    (product-bounded (v .lo-in) (w .lo-in)) (product-bounded (v .lo-in) (w .hi-in)) (product-bounded (v .hi-in) (w .lo-in)) (product-bounded (v .hi-in) (w .hi-in))
 
 -- ---- as the code has it: p and a bias b that is less than one scale above the 4·10^12
 module _ (p b : ℤ) (f : SFits w64 p) (h : Bounded p) (l : pos 4000000000000000000 ≤ℤ b) (u : b ≤ℤ pos 4000000000000999999) where
@@ -61,20 +74,3 @@ module _ (p b : ℤ) (f : SFits w64 p) (h : Bounded p) (l : pos 4000000000000000
 
   pub biased-read : toZ w64 (ofZ w64 (toZ w64 (natAbs (toZ w64 (ofZ w64 (toZ w64 (ofZ w64 p) +ℤ b))) / 1000000) -ℤ pos 4000000000000)) ≡ floorDiv (p +ℤ b) (pos 1000000) -ℤ pos 4000000000000
   biased-read = toZ-ofZ w64 _ biased-less ∙ rw (toZ-ofZ w64 p f, natural-read (p +ℤ b) 1000000 fits above)
-
--- ---- a product of two natural numbers, and what is less than one scale above it
-pub natural-above : (u v : ℤ) → pos 0 ≤ℤ u → pos 0 ≤ℤ v → pos 0 ≤ℤ (u *ℤ v)
-natural-above = over 2 _ (λ ρ n m. also (prod n m) (simp (linear, ρ) (omega arith)))
-
-module _ (p b : ℤ) (l : pos 0 ≤ℤ b) where
-  pub higher-above : pos 0 ≤ℤ p → pos 0 ≤ℤ (p +ℤ b)
-  higher-above h = go p b h l
-    where
-      go : (p b : ℤ) → pos 0 ≤ℤ p → pos 0 ≤ℤ b → pos 0 ≤ℤ (p +ℤ b)
-      go = over 2 _ (λ ρ. simp (linear, ρ) (omega arith))
-
-  pub higher-fits : Bounded p → b ≤ℤ pos 999999 → SFits w64 (p +ℤ b)
-  higher-fits h u = go p b (h .0) (h .1) l u
-    where
-      go : (p b : ℤ) → negsuc 3999999999999999999 ≤ℤ p → p ≤ℤ pos 4000000000000000000 → pos 0 ≤ℤ b → b ≤ℤ pos 999999 → SFits w64 (p +ℤ b)
-      go = over 2 _ (λ ρ. simp (fits64, linear, ρ) (omega arith))

@@ -58,14 +58,17 @@ least a b c d = minimum (minimum a b) (minimum c d)
 abbrev pub greatest : ℤ → ℤ → ℤ → ℤ → ℤ
 greatest a b c d = maximum (maximum a b) (maximum c d)
 
+-- 'the four end results' of a product: 'the lowest' and 'the highest'
+abbrev pub leastProduct : Interval → Interval → ℤ
+leastProduct x y = least (x .lo *ℤ y .lo) (x .lo *ℤ y .hi) (x .hi *ℤ y .lo) (x .hi *ℤ y .hi)
+
+abbrev pub greatestProduct : Interval → Interval → ℤ
+greatestProduct x y = greatest (x .lo *ℤ y .lo) (x .lo *ℤ y .hi) (x .hi *ℤ y .lo) (x .hi *ℤ y .hi)
+
 -- 'the lowest of the four end results rounded towards minus infinity, the highest towards plus infinity', with s units in one whole:
 -- a product of two counts of units has s·s parts, and a quotient of two has none
 unfoldable pub productAt : ℤ → Interval → Interval → Interval
-productAt s x y =
-    record {
-      lo = floorDiv (least (x .lo *ℤ y .lo) (x .lo *ℤ y .hi) (x .hi *ℤ y .lo) (x .hi *ℤ y .hi)) s;
-      hi = ceilDiv (greatest (x .lo *ℤ y .lo) (x .lo *ℤ y .hi) (x .hi *ℤ y .lo) (x .hi *ℤ y .hi)) s;
-    }
+productAt s x y = record { lo = floorDiv (leastProduct x y) s; hi = ceilDiv (greatestProduct x y) s }
 
 -- the four end results are fractions, so each is rounded and then the lowest is taken, which is the lowest rounded
 unfoldable pub quotientAt : ℤ → Interval → Interval → Interval

@@ -5,11 +5,11 @@ use integer::internal::max_of;
 use integer::internal::min_of;
 ghost use mathlib.Core.Path.{_≡_};
 ghost use mathlib.Core.Bool.{true, false};
-ghost use lib.IntN.{pos, negsuc, _*ℤ_};
+ghost use lib.IntN.{pos, negsuc};
 ghost use lib.Signed.{_≤ℤ_, _<ℤ_};
 ghost use Rattle.integer.specs.Rounding.{floorDiv, ceilDiv};
 ghost use Rattle.integer.specs.Extremes.{minimum, maximum};
-ghost use Rattle.interval.specs.Interval.{scale, within, inRange, acceptable, containsZero, exactSum, exactDifference, product, quotient, ends, intersection, negated, isEmpty};
+ghost use Rattle.interval.specs.Interval.{scale, within, inRange, acceptable, containsZero, exactSum, exactDifference, leastProduct, greatestProduct, product, quotient, intersection, negated, isEmpty};
 ghost use Rattle.interval.specs.Size.{Representable};
 
 fn within(z: i64) -> bool
@@ -102,115 +102,67 @@ fn scaled_up(p: i64) -> i64
     q - BIAS_IN_SCALES
 }
 
-// u·v / SCALE rounded down and w·z / SCALE rounded up.
-fn rounded(u: i64, v: i64, w: i64, z: i64) -> Interval
-    requires { ⌜ within u ≡ true ⌝ }
-    requires { ⌜ within v ≡ true ⌝ }
-    requires { ⌜ within w ≡ true ⌝ }
-    requires { ⌜ within z ≡ true ⌝ }
-    ensures { λ r. ⌜ r ≡ ends (floorDiv (u *ℤ v) scale) (ceilDiv (w *ℤ z) scale) ⌝ }
-{
-    let lo = scaled_down(u * v);
-    let hi = scaled_up(w * z);
-    Interval { lo, hi }
-}
-
-// The same of natural numbers: no bias.
-fn rounded_naturals(u: i64, v: i64, w: i64, z: i64) -> Interval
-    requires { ⌜ (within u ≡ true) × (pos 0 ≤ℤ u) ⌝ }
-    requires { ⌜ (within v ≡ true) × (pos 0 ≤ℤ v) ⌝ }
-    requires { ⌜ (within w ≡ true) × (pos 0 ≤ℤ w) ⌝ }
-    requires { ⌜ (within z ≡ true) × (pos 0 ≤ℤ z) ⌝ }
-    ensures { λ r. ⌜ r ≡ ends (floorDiv (u *ℤ v) scale) (ceilDiv (w *ℤ z) scale) ⌝ }
-{
-    let p = (u * v) as u64;
-    let q = (w * z + ROUND_UP) as u64;
-    let lo = (p / SCALE) as i64;
-    let hi = (q / SCALE) as i64;
-    Interval { lo, hi }
-}
-
-// Both operands lie across 0: the one case in which all four products count.
-fn product_of_mixed(x: Interval, y: Interval) -> Interval
+// The least of the four products of ends. Unless the left operand lies across 0 the signs tell which it is.
+fn least_product(x: Interval, y: Interval) -> i64
     requires { ⌜ acceptable x ≡ true ⌝ }
     requires { ⌜ acceptable y ≡ true ⌝ }
-    requires { ⌜ x .lo ≤ℤ pos 0 ⌝ }
-    requires { ⌜ pos 0 ≤ℤ x .hi ⌝ }
-    ensures { λ r. ⌜ r ≡ product x y ⌝ }
+    ensures { λ r. ⌜ r ≡ leastProduct x y ⌝ }
 {
     let a = x.lo;
     let b = x.hi;
     let c = y.lo;
     let d = y.hi;
-    let lo = scaled_down(min_of(a * d, b * c));
-    let hi = scaled_up(max_of(a * c, b * d));
-    Interval { lo, hi }
-}
-
-// The left operand starts below 0: the signs tell which of the four end products are the least and the greatest.
-fn product_from_below(x: Interval, y: Interval) -> Interval
-    requires { ⌜ acceptable x ≡ true ⌝ }
-    requires { ⌜ acceptable y ≡ true ⌝ }
-    requires { ⌜ x .lo ≤ℤ pos 0 ⌝ }
-    ensures { λ r. ⌜ r ≡ product x y ⌝ }
-{
-    let a = x.lo;
-    let b = x.hi;
-    let c = y.lo;
-    let d = y.hi;
+    if 0 <= a {
+        if c < 0 {
+            return b * c;
+        }
+        return a * c;
+    }
     if b <= 0 {
-        if 0 <= c {
-            return rounded(a, d, b, c);
+        if d < 0 {
+            return b * d;
         }
-        if d <= 0 {
-            return rounded(b, d, a, c);
-        }
-        return rounded(a, d, a, c);
+        return a * d;
     }
-    if 0 <= c {
-        return rounded(a, d, b, d);
-    }
-    if d <= 0 {
-        return rounded(b, c, a, c);
-    }
-    product_of_mixed(x, y)
+    min_of(a * d, b * c)
 }
 
-// The left operand is a natural number, the right one starts below 0.
-fn product_of_natural(x: Interval, y: Interval) -> Interval
+// The greatest of them.
+fn greatest_product(x: Interval, y: Interval) -> i64
     requires { ⌜ acceptable x ≡ true ⌝ }
     requires { ⌜ acceptable y ≡ true ⌝ }
-    requires { ⌜ pos 0 ≤ℤ x .lo ⌝ }
-    requires { ⌜ y .lo ≤ℤ pos 0 ⌝ }
-    ensures { λ r. ⌜ r ≡ product x y ⌝ }
+    ensures { λ r. ⌜ r ≡ greatestProduct x y ⌝ }
 {
     let a = x.lo;
     let b = x.hi;
     let c = y.lo;
     let d = y.hi;
-    if d <= 0 {
-        return rounded(b, c, a, d);
+    if 0 <= a {
+        if d < 0 {
+            return a * d;
+        }
+        return b * d;
     }
-    rounded(b, c, b, d)
+    if b <= 0 {
+        if c < 0 {
+            return a * c;
+        }
+        return b * c;
+    }
+    max_of(a * c, b * d)
 }
 
-// The product, rounded outwards, without a range test. Natural numbers, the common case, take the shortest way.
+// The product, rounded outwards, without a range test.
 pub fn product(x: Interval, y: Interval) -> Interval
     requires { ⌜ acceptable x ≡ true ⌝ }
     requires { ⌜ acceptable y ≡ true ⌝ }
     ensures { λ r. ⌜ r ≡ product x y ⌝ }
 {
-    let a = x.lo;
-    let b = x.hi;
-    let c = y.lo;
-    let d = y.hi;
-    if a < 0 {
-        return product_from_below(x, y);
-    }
-    if c < 0 {
-        return product_of_natural(x, y);
-    }
-    rounded_naturals(a, c, b, d)
+    let p = least_product(x, y);
+    let q = greatest_product(x, y);
+    let lo = scaled_down(p);
+    let hi = scaled_up(q);
+    Interval { lo, hi }
 }
 
 // The lower of a / near and a / far, rounded down.
