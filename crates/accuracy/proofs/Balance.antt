@@ -17,11 +17,11 @@ use Rattle.fraction.proofs.Sum.{difference-inside}
 use Rattle.inputs.specs.Place.{at}
 use Rattle.rows.specs.Exact.{exactRow}
 use Rattle.elimination.specs.Run.{cell, rhs}
-use Rattle.elimination.specs.Unit.{unit}
+use Rattle.elimination.specs.Formed.{identity}
 use Rattle.accuracy.proofs.Common.{ratio, cancel-same, same-trans, widen-same, own-same, Common, common}
 use Rattle.accuracy.proofs.Row.{dot, Row, Holds, Met, dot-difference}
 use Rattle.accuracy.proofs.Sum.{parts, sum-same}
-use Rattle.accuracy.proofs.Unit.{wholes, unit-inside, dot-unit}
+use Rattle.accuracy.proofs.Formed.{wholes, identity-inside, dot-identity}
 
 -- ---- one row: the shares and the constant over one denominator
 module _ (n : ℕ) (coefficient : ℕ → Fraction) (constant : Fraction) where
@@ -50,7 +50,7 @@ module _ (n : ℕ) (coefficient : ℕ → Fraction) (constant : Fraction) where
   pub rowOf : ℕ → Row
   rowOf i = record { left = λ j. den *ℤ scale *ℤ wholes i j -ℤ pos 1 *ℤ over-den j; right = delivered; den = den }
 
-  pub row-holds : (t B b : List ℤ) (i : ℕ) → ((j : ℕ) → j < n → at t (cell n i j) ≡ exactDifference (unit i j) (at B (cell n i j))) → at t (rhs n i) ≡ at b i →
+  pub row-holds : (t B b : List ℤ) (i : ℕ) → ((j : ℕ) → j < n → at t (cell n i j) ≡ exactDifference (identity i j) (at B (cell n i j))) → at t (rhs n i) ≡ at b i →
       ((j : ℕ) → j < n → Inside (at B (cell n i j)) (coefficient j)) → Inside (at b i) constant → Holds n t i 0 (rowOf i)
   unfolding rowOf difference
   row-holds t B b i f g h k =
@@ -59,7 +59,7 @@ module _ (n : ℕ) (coefficient : ℕ → Fraction) (constant : Fraction) where
         cells = λ j u v.
             rw (f j v)
             (inside-same (record { holds = exact den scale (wholes i j) (over-den j) })
-            (difference-inside (unit-inside i j) (inside-same (same-sym (coefficient-same j v)) (h j v))));
+            (difference-inside (identity-inside i j) (inside-same (same-sym (coefficient-same j v)) (h j v))));
         right = rw g (inside-same (same-sym delivered-same) k);
       }
     where
@@ -88,7 +88,7 @@ module _ (n : ℕ) (coefficient : ℕ → Fraction) (constant : Fraction) where
     unfolding rowOf
     row-sum =
         dot-difference (den *ℤ scale) (pos 1) (wholes i) over-den (weights .num) n 0 ∙
-        ap (λ z. den *ℤ scale *ℤ z -ℤ pos 1 *ℤ total) (dot-unit i (weights .num) n 0 (omega arith) (omega arith))
+        ap (λ z. den *ℤ scale *ℤ z -ℤ pos 1 *ℤ total) (dot-identity i (weights .num) n 0 (omega arith) (omega arith))
 
     weigh : (w m q s : ℤ) → w *ℤ (m *ℤ q *ℤ s) ≡ (m *ℤ s *ℤ w) *ℤ q
     weigh = over 4 _ (λ ρ. simp reading (ring _ _ _ tt))

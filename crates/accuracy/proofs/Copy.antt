@@ -14,7 +14,7 @@ use Rattle.inputs.specs.Place.{at}
 use Rattle.inputs.specs.Tests.{System}
 use Rattle.inputs.proofs.Place.{at-left, at-right}
 use Rattle.elimination.specs.Run.{cell, rhs}
-use Rattle.elimination.specs.Unit.{unit}
+use Rattle.elimination.specs.Formed.{identity}
 use Rattle.elimination.specs.Call.{copied, box}
 use Rattle.elimination.proofs.Index.{cell-before}
 use Rattle.accuracy.specs.Solution.{numbers, balanceOf}
@@ -56,7 +56,7 @@ numbers-at f (suc d) p zero h = let e : p + 0 ≡ p = omega arith in rw e (at-fi
 numbers-at f (suc d) p (suc k) h = let e : p + suc k ≡ p + 1 + k = omega arith in rw e (at-later _ _ _ k ∙ numbers-at f d (p + 1) k (omega arith))
 
 module _ (s : System) (i j : ℕ) (a : i < s .size) (b : j < s .size) where
-  pub balance-cell : at (balanceOf s .matrix) (cell (s .size) i j) ≡ exactDifference (unit i j) (at (s .matrix) (cell (s .size) i j))
+  pub balance-cell : at (balanceOf s .matrix) (cell (s .size) i j) ≡ exactDifference (identity i j) (at (s .matrix) (cell (s .size) i j))
   unfolding balanceOf
   balance-cell =
       let n = s .size in

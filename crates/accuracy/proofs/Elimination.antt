@@ -18,7 +18,7 @@ use Rattle.rows.specs.Sum.{RowSum, singly}
 use Rattle.rows.specs.Exact.{Encloses}
 use Rattle.rows.proofs.Enclosed.{singly-encloses}
 use Rattle.elimination.specs.Run.{Run, done, cell, rhs}
-use Rattle.elimination.specs.Unit.{unit}
+use Rattle.elimination.specs.Formed.{identity}
 use Rattle.elimination.specs.Call.{copied, solved, tests, tested, overA, overB}
 use Rattle.elimination.proofs.Run.{never, done-same, joined}
 use Rattle.elimination.proofs.Kept.{forward-pivots}
@@ -29,7 +29,7 @@ use Rattle.accuracy.proofs.Row.{Row, Holds, Met, square-above}
 use Rattle.accuracy.proofs.Steps.{after, met-after}
 use Rattle.accuracy.proofs.Forward.{forward-holds}
 use Rattle.accuracy.proofs.Back.{back-holds}
-use Rattle.accuracy.proofs.Unit.{unit-twice, rows-formed}
+use Rattle.accuracy.proofs.Formed.{identity-twice, rows-formed}
 use Rattle.accuracy.proofs.Balance.{rowOf, row-holds, balance-met}
 use Rattle.accuracy.proofs.Copy.{copied-cell, copied-right, box-at, balance-cell}
 
@@ -50,7 +50,7 @@ solved-inside sum encloses n t X room e R H w q above M j h =
 
 -- ---- a solution of the balance that a list holds as I − B and b
 module _ (sum : RowSum) (encloses : Encloses sum) (s : System) (t X : List ℤ) (room : 2 * (s .size * s .size + s .size) ≤ length t) (run : solved sum (s .size) t ≡ done X)
-    (cells : (i j : ℕ) → i < s .size → j < s .size → at t (cell (s .size) i j) ≡ exactDifference (unit i j) (at (s .matrix) (cell (s .size) i j)))
+    (cells : (i j : ℕ) → i < s .size → j < s .size → at t (cell (s .size) i j) ≡ exactDifference (identity i j) (at (s .matrix) (cell (s .size) i j)))
     (right : (i : ℕ) → i < s .size → at t (rhs (s .size) i) ≡ at (s .right) i) where
   pub solution-inside : (x : ℕ → Fraction) → Solution s x → InBox (s .size) X x
   solution-inside x sol =
@@ -81,7 +81,7 @@ over-A s l X e =
     let r = ready (s .size) (s .matrix) (s .right) l (a .0) in
     let m = r .fitting .matrix in
     solution-inside singly singly-encloses (balanceOf s) (copied s) X (copied-working (s .size) (s .matrix) (s .right) l r .room) (a .1)
-    (λ i j h k. copied-cell s m i j h k ∙ sym (ap (exactDifference (unit i j)) (balance-cell s i j h k) ∙ unit-twice i j _))
+    (λ i j h k. copied-cell s m i j h k ∙ sym (ap (exactDifference (identity i j)) (balance-cell s i j h k) ∙ identity-twice i j _))
     (copied-right s m (r .fitting .right))
 
 -- the call over B and b: I − B is formed first
@@ -95,5 +95,5 @@ over-B s l X e =
     let room = copied-working (s .size) (s .matrix) (s .right) l r .room in
     let f = rows-formed (s .size) (s .size) 0 (copied s) (b .mid) (omega arith) room (b .first) in
     solution-inside singly singly-encloses s (b .mid) X (omega (arith, f .as-long, room)) (b .rest)
-    (λ i j h k. f .new i j (omega arith) h k ∙ ap (exactDifference (unit i j)) (copied-cell s m i j h k))
+    (λ i j h k. f .new i j (omega arith) h k ∙ ap (exactDifference (identity i j)) (copied-cell s m i j h k))
     (λ i h. f .old (rhs (s .size) i) (inr (omega arith)) ∙ copied-right s m (r .fitting .right) i h)

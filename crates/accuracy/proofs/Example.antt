@@ -9,7 +9,7 @@ use Rattle.fraction.specs.Fraction.{Fraction, Inside, Same, sum, productAt}
 use Rattle.inputs.specs.Place.{at}
 use Rattle.rows.specs.Exact.{exactRow}
 use Rattle.elimination.specs.Run.{cell}
-use Rattle.elimination.specs.Unit.{unit}
+use Rattle.elimination.specs.Formed.{identity}
 use Rattle.accuracy.specs.Solution.{numbers, balanceOf}
 use Rattle.accuracy.specs.Beside.{fifth, weight, Example}
 
@@ -21,7 +21,7 @@ abbrev constant : Fraction
 constant = record { num = pos 9000000; den = pos 7; above = ltZ-yes tt }
 
 coefficient-in : (i j : ℕ) → i < 1 → j < 1 → Inside (at (balanceOf fifth .matrix) (cell 1 i j)) coefficient
-unfolding balanceOf numbers at exactDifference unit scale
+unfolding balanceOf numbers at exactDifference identity scale
 coefficient-in zero zero h k = record { low = leZ-yes tt; high = leZ-yes tt }
 coefficient-in zero (suc j) h k = absurd (omega arith)
 coefficient-in (suc i) j h k = absurd (omega arith)

@@ -5,7 +5,7 @@ pub mod Written
 pub mod Forward
 pub mod Sum
 pub mod Back
-pub mod Unit
+pub mod Formed
 pub mod Balance
 pub mod Copy
 pub mod Elimination

@@ -9,7 +9,7 @@ use Rattle.inputs.specs.Place.{at}
 use Rattle.inputs.specs.Tests.{System}
 use Rattle.rows.specs.Exact.{exactRow}
 use Rattle.elimination.specs.Run.{cell}
-use Rattle.elimination.specs.Unit.{unit}
+use Rattle.elimination.specs.Formed.{identity}
 
 -- 'some choice of exact fractions inside the bounds of B and b', for a system that holds B and b
 pub record Choice (s : System) : Type 0 where
@@ -40,6 +40,6 @@ unfoldable pub balanceOf : System → System
 balanceOf s =
     record {
       size = s .size;
-      matrix = numbers (λ p. exactDifference (unit (p / s .size) (p % s .size)) (at (s .matrix) p)) (s .size * s .size) 0;
+      matrix = numbers (λ p. exactDifference (identity (p / s .size) (p % s .size)) (at (s .matrix) p)) (s .size * s .size) 0;
       right = s .right;
     }

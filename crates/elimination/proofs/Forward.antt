@@ -12,8 +12,8 @@ use Rattle.outcome.specs.declared.Outcome.the-variants as outcome
 use Rattle.interval.specs.declared.Interval.{Interval}
 use Rattle.interval.specs.Interval.{acceptable, containsZero, inRange, quotient}
 use Rattle.inputs.specs.Place.{at, put}
-use Rattle.elimination.specs.declared.Usable.{Usable}
-use Rattle.elimination.specs.declared.Usable.the-variants.{Yes, No}
+use Rattle.elimination.specs.declared.internal.Usable.{Usable}
+use Rattle.elimination.specs.declared.internal.Usable.the-variants.{Yes, No}
 use Rattle.elimination.specs.Run.{Run, stop, done, andThen, inRangeThen, cell, rhs}
 use Rattle.elimination.specs.Forward.{pivoted, reduced, columns, rightSide, rows, pivots, forward}
 use Rattle.elimination.specs.Code.{Placed, usable, Kept}

@@ -3,7 +3,7 @@ pub mod Value
 pub mod Run
 pub mod Kept
 pub mod Step
-pub mod Unit
+pub mod Formed
 pub mod Forward
 pub mod Back
 pub mod Call

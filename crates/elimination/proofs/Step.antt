@@ -12,10 +12,10 @@ use Rattle.interval.specs.Interval.{containsZero, inRange}
 use Rattle.interval.proofs.Range.{accept}
 use Rattle.inputs.specs.Place.{Sound, put}
 use Rattle.inputs.proofs.Place.{sound-put}
-use Rattle.elimination.specs.declared.Usable.the-variants.{Yes, No}
+use Rattle.elimination.specs.declared.internal.Usable.the-variants.{Yes, No}
 use Rattle.outcome.specs.declared.Outcome.{Outcome}
-use Rattle.elimination.specs.declared.Ending.{Ending}
-use Rattle.elimination.specs.declared.Ending.the-variants.{Finished, Stopped}
+use Rattle.elimination.specs.declared.internal.Ending.{Ending}
+use Rattle.elimination.specs.declared.internal.Ending.the-variants.{Finished, Stopped}
 use Rattle.elimination.specs.Run.{Run, stop, done}
 use Rattle.elimination.specs.Code.{Working, Placed, usable, Kept, Ran, runOf}
 

@@ -12,7 +12,7 @@ use Rattle.rows.specs.Sum.{RowSum, singly}
 use Rattle.elimination.specs.Run.{Run, stop, done, andThen}
 use Rattle.elimination.specs.Forward.{forward}
 use Rattle.elimination.specs.Back.{back}
-use Rattle.elimination.specs.Unit.{unitRows}
+use Rattle.elimination.specs.Formed.{formedRows}
 
 -- 'It holds its own copy of up to 2,112 numbers': both lent slices, one after the other. What is left of the 2,112 is never read
 unfoldable pub copied : System → List ℤ
@@ -40,7 +40,7 @@ unfoldable pub overA : System → (boxLength : ℕ) → Run
 overA s l = tested (tests s l) (solved singly (s .size) (copied s))
 
 unfoldable pub overB : System → (boxLength : ℕ) → Run
-overB s l = tested (tests s l) (andThen (unitRows (s .size) (s .size) 0 (copied s)) (λ t. solved singly (s .size) t))
+overB s l = tested (tests s l) (andThen (formedRows (s .size) (s .size) 0 (copied s)) (λ t. solved singly (s .size) t))
 
 -- what a call returns, and the box that it leaves: 'writes the box only when all is done'
 abbrev pub outcomeOf : Run → Outcome

@@ -9,10 +9,10 @@ use Rattle.outcome.specs.declared.Outcome.{Outcome}
 use Rattle.interval.specs.declared.Interval.{Interval}
 use Rattle.interval.specs.Interval.{containsZero, inRange, quotient}
 use Rattle.inputs.specs.Place.{at, Sound, put}
-use Rattle.elimination.specs.declared.Ending.{Ending}
-use Rattle.elimination.specs.declared.Ending.the-variants.{Finished, Stopped}
-use Rattle.elimination.specs.declared.Usable.{Usable}
-use Rattle.elimination.specs.declared.Usable.the-variants.{Yes, No}
+use Rattle.elimination.specs.declared.internal.Ending.{Ending}
+use Rattle.elimination.specs.declared.internal.Ending.the-variants.{Finished, Stopped}
+use Rattle.elimination.specs.declared.internal.Usable.{Usable}
+use Rattle.elimination.specs.declared.internal.Usable.the-variants.{Yes, No}
 use Rattle.elimination.specs.Run.{Run, stop, done, cell, rhs}
 use Rattle.rows.specs.Sum.{singly}
 use Rattle.elimination.specs.Back.{numerator}

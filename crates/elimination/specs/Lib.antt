@@ -1,6 +1,6 @@
 pub mod Run
 pub mod Forward
 pub mod Back
-pub mod Unit
+pub mod Formed
 pub mod Call
 pub mod Code

@@ -5,25 +5,12 @@ use crate::internal::solve::solve_balance;
 use inputs::Test;
 use inputs::internal::intervals;
 use inputs::internal::size_and_lengths;
-use interval::Interval;
 use outcome::Outcome;
 ghost use mathlib.Core.Path.{_≡_};
 ghost use lib.ListN.{length};
 ghost use Rattle.outcome.specs.Table.{paper};
 ghost use Rattle.inputs.specs.Tests.{system};
 ghost use Rattle.elimination.specs.Call.{tests, overA, overB, outcomeOf, boxAfter};
-
-// How a part of the calculation ended.
-pub enum Ending {
-    Finished,
-    Stopped(Outcome),
-}
-
-// An interval with which the calculation can go on, or none.
-pub enum Usable {
-    Yes(Interval),
-    No,
-}
 
 // The tests before the calculation.
 fn tested(n: usize, matrix: &[i64], right: &[i64], bounds: usize) -> Test

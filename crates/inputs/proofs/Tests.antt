@@ -15,7 +15,7 @@ use Rattle.interval.proofs.Range.{and-both}
 use Rattle.inputs.specs.declared.Test.{Test}
 use Rattle.inputs.specs.declared.Test.the-variants.{Pass, Fail}
 use Rattle.inputs.specs.Place.{at}
-use Rattle.inputs.specs.Tests.{both, need, sized, long, slices, sizes, proper}
+use Rattle.inputs.specs.Tests.{both, need, sized, lengths, slices, sizes, proper}
 
 never : {A : Type 0} (o : Outcome) → Fail o ≡ Pass → A
 never o e = let z : _≡_ {A = ℕ} 0 1 = cc in absurd (omega arith)
@@ -66,24 +66,24 @@ rows-apart n k i h =
     rw (← e) (mul-le-mul {n₁ = k + 1} {m₁ = n} {n₂ = i} {m₂ = n} (omega arith) (omega arith))
 
 module _ (n m r b : ℕ) where
-  pub long-matrix : (m ≡ 2 * (n * n) → ⊥) → Fail (outcome.Length 1) ≡ long (slices n m r b)
-  unfolding long need both
-  long-matrix h = rw (ne-eqb m (2 * (n * n)) h)
+  pub lengths-matrix : (m ≡ 2 * (n * n) → ⊥) → Fail (outcome.Length 1) ≡ lengths (slices n m r b)
+  unfolding lengths need both
+  lengths-matrix h = rw (ne-eqb m (2 * (n * n)) h)
 
-  pub long-right : m ≡ 2 * (n * n) → (r ≡ 2 * n → ⊥) → Fail (outcome.Length 2) ≡ long (slices n m r b)
-  unfolding long need both
-  long-right e h = rw (eq-eqb m (2 * (n * n)) e, ne-eqb r (2 * n) h)
+  pub lengths-right : m ≡ 2 * (n * n) → (r ≡ 2 * n → ⊥) → Fail (outcome.Length 2) ≡ lengths (slices n m r b)
+  unfolding lengths need both
+  lengths-right e h = rw (eq-eqb m (2 * (n * n)) e, ne-eqb r (2 * n) h)
 
-  pub long-box : m ≡ 2 * (n * n) → r ≡ 2 * n → (b ≡ 2 * n → ⊥) → Fail (outcome.Length 3) ≡ long (slices n m r b)
-  unfolding long need both
-  long-box e f h = rw (eq-eqb m (2 * (n * n)) e, eq-eqb r (2 * n) f, ne-eqb b (2 * n) h)
+  pub lengths-box : m ≡ 2 * (n * n) → r ≡ 2 * n → (b ≡ 2 * n → ⊥) → Fail (outcome.Length 3) ≡ lengths (slices n m r b)
+  unfolding lengths need both
+  lengths-box e f h = rw (eq-eqb m (2 * (n * n)) e, eq-eqb r (2 * n) f, ne-eqb b (2 * n) h)
 
-  pub long-yes : m ≡ 2 * (n * n) → r ≡ 2 * n → b ≡ 2 * n → Pass ≡ long (slices n m r b)
-  unfolding long need both
-  long-yes e f g = rw (eq-eqb m (2 * (n * n)) e, eq-eqb r (2 * n) f, eq-eqb b (2 * n) g)
+  pub lengths-yes : m ≡ 2 * (n * n) → r ≡ 2 * n → b ≡ 2 * n → Pass ≡ lengths (slices n m r b)
+  unfolding lengths need both
+  lengths-yes e f g = rw (eq-eqb m (2 * (n * n)) e, eq-eqb r (2 * n) f, eq-eqb b (2 * n) g)
 
   -- tests 1 and 2 in sequence
-  pub sizes-go : sized n ≡ Pass → long (slices n m r b) ≡ sizes n m r b
+  pub sizes-go : sized n ≡ Pass → lengths (slices n m r b) ≡ sizes n m r b
   unfolding sizes both
   sizes-go e = rw e
 
@@ -100,7 +100,7 @@ pub record Fitting (n m r b : ℕ) : Type 0 where
   pub box : b ≡ 2 * n
 
 pub sizes-pass : (n m r b : ℕ) → sizes n m r b ≡ Pass → Fitting n m r b
-unfolding sizes long
+unfolding sizes lengths
 sizes-pass n m r b e =
     let f = both-pass (sized n) _ e in
     let g = both-pass _ _ (f .1) in

@@ -39,9 +39,9 @@ pub record Slice : Type 0 where
   pub wanted : ℕ
 
 -- 'that slice has the wrong length; lowest place first'
-unfoldable pub long : List Slice → Test
-long [] = Pass
-long (s ∷ ss) = both (need (eqb (s .held) (2 * s .wanted)) (outcome.Length (s .place))) (long ss)
+unfoldable pub lengths : List Slice → Test
+lengths [] = Pass
+lengths (s ∷ ss) = both (need (eqb (s .held) (2 * s .wanted)) (outcome.Length (s .place))) (lengths ss)
 
 -- 'ends out of sequence or out of the range; intervals counted from 0': those of t at p, p + 1, .., d of them, at positions from + p and on
 unfoldable pub proper : List ℤ → (d p from : ℕ) → Test
@@ -64,4 +64,4 @@ slices n m r b =
 
 -- tests 1 and 2
 unfoldable pub sizes : (n matrix right box : ℕ) → Test
-sizes n m r b = both (sized n) (long (slices n m r b))
+sizes n m r b = both (sized n) (lengths (slices n m r b))

@@ -8,7 +8,7 @@ ghost use mathlib.Core.Path.{_≡_};
 ghost use Prim.Native.Nat.{_+_, _*_, _≤_, _<_};
 ghost use lib.ListN.{length};
 ghost use Rattle.inputs.specs.Place.{at, put};
-ghost use Rattle.inputs.specs.Tests.{sized, long, slices, sizes, proper};
+ghost use Rattle.inputs.specs.Tests.{sized, lengths, slices, sizes, proper};
 
 // The interval at position p.
 pub fn read(s: &[i64], p: usize) -> Interval
@@ -48,7 +48,7 @@ fn size(n: usize) -> Test
 // Test 2, of the lengths of matrix, right side and box.
 fn lengths(n: usize, matrix: usize, right: usize, bounds: usize) -> Test
     requires { ⌜ n ≤ 32 ⌝ }
-    ensures { λ r. ⌜ r ≡ long (slices n matrix right bounds) ⌝ }
+    ensures { λ r. ⌜ r ≡ lengths (slices n matrix right bounds) ⌝ }
 {
     if matrix != 2 * (n * n) {
         return Test::Fail(Outcome::Length(1));

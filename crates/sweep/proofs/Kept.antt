@@ -16,7 +16,7 @@ use Rattle.interval.specs.Interval.{isEmpty, acceptable}
 use Rattle.inputs.specs.declared.Test.{Test}
 use Rattle.inputs.specs.declared.Test.the-variants.{Pass, Fail}
 use Rattle.inputs.specs.Place.{at, put}
-use Rattle.inputs.specs.Tests.{System, system, both, need, sized, Slice, long, proper, Part, allProper, sizes}
+use Rattle.inputs.specs.Tests.{System, system, both, need, sized, Slice, lengths, proper, Part, allProper, sizes}
 use Rattle.inputs.proofs.Tests.{both-pass, sizes-pass}
 use Rattle.rows.specs.Sum.{singly}
 use Rattle.sweep.specs.Pass as pass
@@ -85,15 +85,15 @@ unfolding allProper
 early-all from [] = tt
 early-all from (p ∷ ps) = early-both _ _ (early-proper (p .numbers) (p .count) 0 from) (early-all (from + p .count) ps)
 
-early-long : (ss : List Slice) → Early (long ss)
-unfolding long
-early-long [] = tt
-early-long (t ∷ ss) = early-both _ _ (early-need (eqb (t .held) (2 * t .wanted)) (outcome.Length (t .place)) (omega arith, omega arith)) (early-long ss)
+early-lengths : (ss : List Slice) → Early (lengths ss)
+unfolding lengths
+early-lengths [] = tt
+early-lengths (t ∷ ss) = early-both _ _ (early-need (eqb (t .held) (2 * t .wanted)) (outcome.Length (t .place)) (omega arith, omega arith)) (early-lengths ss)
 
 early-tests : (s : System) (k : ℕ) (x : List ℤ) → Early (tests s k x)
 unfolding tests sizes sized allowance
 early-tests s k x =
-    early-both _ _ (early-both _ _ (early-need (leb 1 (s .size) && leb (s .size) 32) outcome.Size (omega arith, omega arith)) (early-long _))
+    early-both _ _ (early-both _ _ (early-need (leb 1 (s .size) && leb (s .size) 32) outcome.Size (omega arith, omega arith)) (early-lengths _))
     (early-both _ _ (early-need (leb 1 k && leb k 10000) outcome.Allowed (omega arith, omega arith)) (early-all _ _))
 
 -- ---- a call that said 0 or 9 has passed them

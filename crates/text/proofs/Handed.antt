@@ -11,7 +11,7 @@ use lib.Seq.{paste, take-length}
 use Rattle.outcome.specs.declared.Outcome.{Outcome}
 use Rattle.outcome.specs.declared.Outcome.the-variants as outcome
 use Rattle.outcome.specs.Table.{paper}
-use Rattle.inputs.specs.Tests.{both, need, long}
+use Rattle.inputs.specs.Tests.{both, need, lengths}
 use Rattle.text.specs.declared.internal.lines.Heading.{Heading}
 use Rattle.text.specs.declared.internal.lines.Reading as code
 use Rattle.text.specs.declared.internal.lines.Reading.the-variants as whole
@@ -32,11 +32,11 @@ module _ (n : ℕ) (t matrix right : List ℤ) where
   Hands = Leaves (handed n t (length matrix) (length right)) matrix right
 
   pub handed-matrix : (length matrix ≡ 2048 → ⊥) → Hands (outcome.Length 1) 0 matrix right
-  unfolding handed long both need
+  unfolding handed lengths both need
   handed-matrix h = rw (ne-eqb (length matrix) 2048 h) (refl, (refl, (refl, refl)))
 
   pub handed-right : length matrix ≡ 2048 → (length right ≡ 64 → ⊥) → Hands (outcome.Length 2) 0 matrix right
-  unfolding handed long both need
+  unfolding handed lengths both need
   handed-right e h = rw (eq-eqb (length matrix) 2048 e, ne-eqb (length right) 64 h) (refl, (refl, (refl, refl)))
 
   -- those of B stand first, those of b after them
@@ -44,7 +44,7 @@ module _ (n : ℕ) (t matrix right : List ℤ) where
       → (let a = take (2 * (n * n)) t in m ≡ paste matrix 0 a (length a))
       → (let b = take (2 * (n * n) + 2 * n - 2 * (n * n)) (drop (2 * (n * n)) t) in r ≡ paste right 0 b (length b))
       → Hands outcome.Done n m r
-  unfolding handed long both need
+  unfolding handed lengths both need
   handed-out m r e f g h =
       let d : 2 * (n * n) + 2 * n - 2 * (n * n) ≡ 2 * n = omega arith in
       rw (eq-eqb (length matrix) 2048 e, eq-eqb (length right) 64 f) (refl, (refl, (g ∙ fronted matrix (take (2 * (n * n)) t), rw d at h ∙ fronted right (take (2 * n) (drop (2 * (n * n)) t)))))

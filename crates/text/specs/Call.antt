@@ -9,7 +9,7 @@ use Rattle.outcome.specs.declared.Outcome.{Outcome}
 use Rattle.outcome.specs.declared.Outcome.the-variants as outcome
 use Rattle.inputs.specs.declared.Test.{Test}
 use Rattle.inputs.specs.declared.Test.the-variants.{Pass, Fail}
-use Rattle.inputs.specs.Tests.{System, long}
+use Rattle.inputs.specs.Tests.{System, lengths}
 use Rattle.text.specs.Parts.{parts, part, startOf}
 use Rattle.text.specs.Text.{Head, wrong, head, headOf, namesIn, Reading, fault, balance, reading}
 
@@ -25,7 +25,7 @@ tested (Fail o) s = refused o
 -- 8, then 2: the lent slices have room for 32 vats, exactly
 abbrev pub answerTo : Reading → (matrix right : ℕ) → Answer
 answerTo (fault k) m r = refused (outcome.Text k)
-answerTo (balance l s) m r = tested (long (record { place = 1; held = m; wanted = 1024 } ∷ record { place = 2; held = r; wanted = 32 } ∷ [])) s
+answerTo (balance l s) m r = tested (lengths (record { place = 1; held = m; wanted = 1024 } ∷ record { place = 2; held = r; wanted = 32 } ∷ [])) s
 
 unfoldable pub answer : List ℕ → (matrix right : ℕ) → Answer
 answer text m r = answerTo (reading text) m r

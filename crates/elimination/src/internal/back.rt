@@ -1,4 +1,4 @@
-use crate::Ending;
+use crate::internal::Ending;
 use crate::internal::step::place;
 use inputs::internal::read;
 use interval::internal::difference;

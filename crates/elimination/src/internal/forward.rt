@@ -1,5 +1,5 @@
-use crate::Ending;
-use crate::Usable;
+use crate::internal::Ending;
+use crate::internal::Usable;
 use crate::internal::step::reduce;
 use inputs::internal::read;
 use inputs::internal::write;

@@ -1,7 +1,7 @@
-use crate::Ending;
+use crate::internal::Ending;
 use crate::internal::back::back;
+use crate::internal::formed::formed_rows;
 use crate::internal::forward::forward;
-use crate::internal::unit::unit_rows;
 use inputs::internal::copy::copy_in;
 use inputs::internal::copy::copy_out;
 use outcome::Outcome;
@@ -13,7 +13,7 @@ ghost use Rattle.inputs.specs.declared.Test.the-variants.{Pass};
 ghost use Rattle.inputs.specs.Tests.{System, system};
 ghost use Rattle.rows.specs.Sum.{singly};
 ghost use Rattle.elimination.specs.Run.{andThen};
-ghost use Rattle.elimination.specs.Unit.{unitRows};
+ghost use Rattle.elimination.specs.Formed.{formedRows};
 ghost use Rattle.elimination.specs.Call.{copied, solved, tests};
 ghost use Rattle.elimination.specs.Code.{Working, Ended};
 
@@ -47,11 +47,11 @@ pub fn solve(n: usize, a: &[i64], f: &[i64], bounds: &mut [i64]) -> Outcome
 // The calculation over B and b.
 pub fn solve_balance(n: usize, b_matrix: &[i64], b: &[i64], bounds: &mut [i64]) -> Outcome
     requires { ⌜ tests (system n (now «b_matrix») (now b)) (length (now bounds)) ≡ Pass ⌝ }
-    ensures { λ r. ⌜ Ended (andThen (unitRows n n 0 (copied (system n (now («b_matrix» .entry)) (now (b .entry))))) (λ t. solved singly n t)) r (now (bounds .entry)) (now (bounds .exit)) ⌝ }
+    ensures { λ r. ⌜ Ended (andThen (formedRows n n 0 (copied (system n (now («b_matrix» .entry)) (now (b .entry))))) (λ t. solved singly n t)) r (now (bounds .entry)) (now (bounds .exit)) ⌝ }
 {
     let mut t = [0i64; 2112];
     copy_in(&mut t, b_matrix, b);
-    let e = unit_rows(n, &mut t);
+    let e = formed_rows(n, &mut t);
     if let Ending::Stopped(o) = e {
         return o;
     }

@@ -11,7 +11,7 @@ use Rattle.outcome.specs.declared.Outcome.{Outcome}
 use Rattle.interval.specs.Interval.{acceptable, containsZero}
 use Rattle.elimination.specs.Run.{stop, done}
 use Rattle.elimination.specs.Forward.{columns, rows, pivots, forward}
-use Rattle.elimination.specs.declared.Ending.{Ending}
+use Rattle.elimination.specs.declared.internal.Ending.{Ending}
 use Rattle.elimination.specs.Code.{Working, runOf}
 use Rattle.elimination.proofs.Step.{working-after}
 use Rattle.elimination.proofs.Forward

@@ -4,7 +4,7 @@ use mathlib.Core.List.{List}
 use denote.Ref.{now}
 use lib.IntN.{ℤ}
 use lib.ListN.{length}
-use Rattle.elimination.specs.Unit.{unitRows}
+use Rattle.elimination.specs.Formed.{formedRows}
 use Rattle.inputs.specs.Tests.{system}
 use Rattle.elimination.specs.Call.{copied}
 use Rattle.elimination.specs.Code.{Working, Ran}
@@ -22,11 +22,11 @@ unfolding copied
 working c = rw (c .copy-in .ensures) (copied-working _ _ _ _ (is-ready (c .before .before)))
 
 -- I − B is formed from the copy
-formed : (c : tie.After-unit-rows) → let s = c .before .before .before .before .before in Ran (unitRows (s .args .n) (s .args .n) 0 (copied (system (s .args .n) (now (s .args .b-matrix)) (now (s .args .b))))) (c .unit-rows .result) (c .unit-rows .last .1 .0)
+formed : (c : tie.After-formed-rows) → let s = c .before .before .before .before .before in Ran (formedRows (s .args .n) (s .args .n) 0 (copied (system (s .args .n) (now (s .args .b-matrix)) (now (s .args .b))))) (c .formed-rows .result) (c .formed-rows .last .1 .0)
 unfolding copied
 formed c =
     let s = c .before .before .before .before .before in
-    subst (λ (t : List ℤ). Ran (unitRows (s .args .n) (s .args .n) 0 t) (c .unit-rows .result) (c .unit-rows .last .1 .0)) (c .before .before .before .copy-in .ensures) (c .unit-rows .ensures)
+    subst (λ (t : List ℤ). Ran (formedRows (s .args .n) (s .args .n) 0 t) (c .formed-rows .result) (c .formed-rows .last .1 .0)) (c .before .before .before .copy-in .ensures) (c .formed-rows .ensures)
 
 slice-aggregate-copy-in : tie.Need-slice-aggregate-copy-in
 slice-aggregate-copy-in c = search needs
@@ -34,11 +34,11 @@ slice-aggregate-copy-in c = search needs
 copy-in-requires : tie.Need-copy-in-requires
 copy-in-requires c κs = copied-fits _ _ _ _ (is-ready (c .before))
 
-slice-aggregate-unit-rows : tie.Need-slice-aggregate-unit-rows
-slice-aggregate-unit-rows c = search needs
+slice-aggregate-formed-rows : tie.Need-slice-aggregate-formed-rows
+slice-aggregate-formed-rows c = search needs
 
-unit-rows-requires : tie.Need-unit-rows-requires
-unit-rows-requires c κs = working (c .before .before)
+formed-rows-requires : tie.Need-formed-rows-requires
+formed-rows-requires c κs = working (c .before .before)
 
 enum-known-e : tie.Need-enum-known-e
 enum-known-e c = search needs
@@ -55,7 +55,7 @@ slice-aggregate-finish c = search needs
 finish-requires : tie.Need-finish-requires
 finish-requires c κs =
     let u = c .before .before .before .before .before in
-    (working-after (working (u .before .before .before)) (u .unit-rows .kept .1 .0) (u .unit-rows .ensures .sound), is-ready (c .before .before .before .before .before .before .before .before .before .before) .fitting .box)
+    (working-after (working (u .before .before .before)) (u .formed-rows .kept .1 .0) (u .formed-rows .ensures .sound), is-ready (c .before .before .before .before .before .before .before .before .before .before) .fitting .box)
 
 same-length : tie.Need-same-length
 same-length c = search needs
@@ -69,8 +69,8 @@ solve-balance-spec =
     (tie.spec
     slice-aggregate-copy-in
     copy-in-requires
-    slice-aggregate-unit-rows
-    unit-rows-requires
+    slice-aggregate-formed-rows
+    formed-rows-requires
     enum-known-e
     returns
     enum-told

@@ -21,7 +21,7 @@ use Rattle.fraction.specs.Fraction.{Inside}
 use Rattle.inputs.specs.Place.{at, put}
 use Rattle.inputs.proofs.Place.{length-put, at-put-other}
 use Rattle.elimination.specs.Run.{done, cell}
-use Rattle.elimination.specs.Unit.{unit, unitRow, unitRows}
+use Rattle.elimination.specs.Formed.{identity, formedRow, formedRows}
 use Rattle.inputs.proofs.Tests.{rows-apart}
 use Rattle.elimination.proofs.Run.{done-same, joined, ranged}
 use Rattle.accuracy.proofs.Common.{ratio}
@@ -32,9 +32,9 @@ use Rattle.accuracy.proofs.Written.{Written, written-none, written-more
 unfoldable pub wholes : (i j : ℕ) → ℤ
 wholes i j = cond (eqb i j) (pos 1) (pos 0)
 
-pub unit-inside : (i j : ℕ) → Inside (unit i j) (ratio (scale *ℤ wholes i j) (pos 1) (ltZ-yes tt))
-unfolding unit wholes
-unit-inside i j = go (eqb i j)
+pub identity-inside : (i j : ℕ) → Inside (identity i j) (ratio (scale *ℤ wholes i j) (pos 1) (ltZ-yes tt))
+unfolding identity wholes
+identity-inside i j = go (eqb i j)
   where
     low : (s : ℤ) → (pos 0 *ℤ pos 1) ≤ℤ (s *ℤ pos 0)
     low = over 1 _ (λ ρ. simp (linear, ρ) (omega arith))
@@ -47,9 +47,9 @@ unit-inside i j = go (eqb i j)
     go false = record { low = low scale; high = high scale }
 
 -- I − (I − A) is A, because the entries of I are single numbers
-pub unit-twice : (i j : ℕ) (v : Interval) → exactDifference (unit i j) (exactDifference (unit i j) v) ≡ v
-unfolding unit exactDifference
-unit-twice i j v = go (eqb i j)
+pub identity-twice : (i j : ℕ) (v : Interval) → exactDifference (identity i j) (exactDifference (identity i j) v) ≡ v
+unfolding identity exactDifference
+identity-twice i j v = go (eqb i j)
   where
     twice : (u a : ℤ) → u -ℤ (u -ℤ a) ≡ a
     twice = over 2 _ (λ ρ. simp linear (omega arith))
@@ -68,10 +68,10 @@ module _ (i : ℕ) (w : ℕ → ℤ) where
       none : (x : ℤ) → pos 0 *ℤ x +ℤ pos 0 ≡ pos 0
       none = over 1 _ (λ ρ. simp (linear, ρ) (omega arith))
 
-  pub dot-unit : (d j : ℕ) → j ≤ i → i < j + d → dot (wholes i) w d j ≡ w i
+  pub dot-identity : (d j : ℕ) → j ≤ i → i < j + d → dot (wholes i) w d j ≡ w i
   unfolding dot wholes
-  dot-unit zero j h k = absurd (omega arith)
-  dot-unit (suc d) j h k = go (ℕ-discrete i j) (dot-unit d (j + 1))
+  dot-identity zero j h k = absurd (omega arith)
+  dot-identity (suc d) j h k = go (ℕ-discrete i j) (dot-identity d (j + 1))
     where
       once : (x : ℤ) → pos 1 *ℤ x +ℤ pos 0 ≡ x
       once = over 1 _ (λ ρ. simp (linear, ρ) (omega arith))
@@ -85,24 +85,24 @@ module _ (i : ℕ) (w : ℕ → ℤ) where
 
 -- ---- I − B in place
 abbrev entry : (n i : ℕ) → List ℤ → ℕ → Interval
-entry n i t j = exactDifference (unit i j) (at t (cell n i j))
+entry n i t j = exactDifference (identity i j) (at t (cell n i j))
 
-row-formed : (n i : ℕ) → i < n → (d j : ℕ) (t t′ : List ℤ) → j + d ≤ n → 2 * (n * n + n) ≤ length t → unitRow n i d j t ≡ done t′ → Written n i (entry n i) d j t t′
-unfolding unitRow
+row-formed : (n i : ℕ) → i < n → (d j : ℕ) (t t′ : List ℤ) → j + d ≤ n → 2 * (n * n + n) ≤ length t → formedRow n i d j t ≡ done t′ → Written n i (entry n i) d j t t′
+unfolding formedRow
 row-formed n i g zero j t t′ b room e = written-none n i (entry n i) j t t′ e
 row-formed n i g (suc d) j t t′ b room e =
     written-more n i (entry n i) j t t′ d g b room
-    (λ l u v. ap (exactDifference (unit i l)) (at-put-other t (cell n i j) (cell n i l) _ (omega arith)))
+    (λ l u v. ap (exactDifference (identity i l)) (at-put-other t (cell n i j) (cell n i l) _ (omega arith)))
     (row-formed n i g d (j + 1) (put t (cell n i j) (entry n i t j)) t′ (omega arith) (rw length-put room) (ranged _ _ _ t′ e .rest))
 
 -- the rows from i on
 pub record Formed (n i : ℕ) (t t′ : List ℤ) : Type 0 where
   pub as-long : length t′ ≡ length t
-  pub new : (l j : ℕ) → i ≤ l → l < n → j < n → at t′ (cell n l j) ≡ exactDifference (unit l j) (at t (cell n l j))
+  pub new : (l j : ℕ) → i ≤ l → l < n → j < n → at t′ (cell n l j) ≡ exactDifference (identity l j) (at t (cell n l j))
   pub old : (p : ℕ) → (p < i * n) ⊎ (n * n ≤ p) → at t′ p ≡ at t p
 
-pub rows-formed : (n d i : ℕ) (t t′ : List ℤ) → i + d ≡ n → 2 * (n * n + n) ≤ length t → unitRows n d i t ≡ done t′ → Formed n i t t′
-unfolding unitRows
+pub rows-formed : (n d i : ℕ) (t t′ : List ℤ) → i + d ≡ n → 2 * (n * n + n) ≤ length t → formedRows n d i t ≡ done t′ → Formed n i t t′
+unfolding formedRows
 rows-formed n zero i t t′ b room e =
     let q = done-same e in
     record { as-long = ap length (sym q); new = λ l j u v c. absurd (omega arith); old = λ p u. ap (λ s. at s p) (sym q) }
@@ -127,8 +127,8 @@ rows-formed n (suc d) i t t′ b room e =
         old p (inl u) = h .old p (inl (omega (arith, next))) ∙ f .old p (inl (omega arith))
         old p (inr u) = h .old p (inr u) ∙ f .old p (inr (omega (arith, rows-apart n i n g)))
 
-        new : (l j : ℕ) → i ≤ l → l < n → j < n → Dec (l ≡ i) → at t′ (cell n l j) ≡ exactDifference (unit l j) (at t (cell n l j))
+        new : (l j : ℕ) → i ≤ l → l < n → j < n → Dec (l ≡ i) → at t′ (cell n l j) ≡ exactDifference (identity l j) (at t (cell n l j))
         new l j u v c (yes q) = rw q (h .old (cell n i j) (inl (omega (arith, next))) ∙ f .new j (omega arith) (omega arith))
         new l j u v c (no q) =
             let q′ : i < l = omega (arith, q) in
-            h .new l j (omega arith) v c ∙ ap (exactDifference (unit l j)) (f .old (cell n l j) (inr (omega (arith, rows-apart n i l q′))))
+            h .new l j (omega arith) v c ∙ ap (exactDifference (identity l j)) (f .old (cell n l j) (inr (omega (arith, rows-apart n i l q′))))

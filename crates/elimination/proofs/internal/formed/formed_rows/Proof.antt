@@ -5,14 +5,14 @@ use native.Mathlib.Nat.{sub-zero}
 use borrow.Author.Needs.{needs}
 use lib.ListN.{length}
 use Rattle.inputs.specs.Place.{Sound}
-use Rattle.elimination.specs.Unit.{unitRows}
-use Rattle.elimination.proofs.Unit.{unitRows-end, unitRows-go, unitRows-stop}
+use Rattle.elimination.specs.Formed.{formedRows}
+use Rattle.elimination.proofs.Formed.{formedRows-end, formedRows-go, formedRows-stop}
 use Rattle.elimination.proofs.Step.{ran-done, ran-stop, working-after}
-use Rattle.elimination.proofs.internal.unit.unit_rows.Statement.{statement}
-use Rattle.elimination.proofs.internal.unit.unit_rows.Tie as tie
+use Rattle.elimination.proofs.internal.formed.formed_rows.Statement.{statement}
+use Rattle.elimination.proofs.internal.formed.formed_rows.Tie as tie
 
 abbrev Inv-loop : tie.InvT-loop
-Inv-loop n t₀ i₀ t i = (i ≤ n) × (length t ≡ length t₀) × Sound t × (unitRows n n 0 t₀ ≡ unitRows n (n - i) i t)
+Inv-loop n t₀ i₀ t i = (i ≤ n) × (length t ≡ length t₀) × Sound t × (formedRows n n 0 t₀ ≡ formedRows n (n - i) i t)
 
 abbrev μ-loop : tie.MeasureT-loop
 μ-loop n t₀ i₀ t i = n - i
@@ -20,8 +20,8 @@ abbrev μ-loop : tie.MeasureT-loop
 loop-holds : tie.Need-loop-holds Inv-loop μ-loop
 loop-holds c = (omega arith, refl, c .pre .sound, rw sub-zero)
 
-unit-row-requires : tie.Need-unit-row-requires Inv-loop μ-loop
-unit-row-requires c κs =
+formed-row-requires : tie.Need-formed-row-requires Inv-loop μ-loop
+formed-row-requires c κs =
     let l = c .before .before in
     let v = l .loop .inv in
     (working-after (l .before .pre) (v .1) (v .2), c .before .loop-test .taken)
@@ -36,8 +36,8 @@ returns : tie.Need-returns Inv-loop μ-loop
 returns c =
     let u = c .before .before .before .before in
     let l = u .before .before in
-    let e = u .unit-row .ensures in
-    record { is = sym (l .before .loop .inv .3 ∙ unitRows-stop _ _ _ (l .loop-test .taken) (ran-stop e (c .before .e .given .1))); sound = e .sound }
+    let e = u .formed-row .ensures in
+    record { is = sym (l .before .loop .inv .3 ∙ formedRows-stop _ _ _ (l .loop-test .taken) (ran-stop e (c .before .e .given .1))); sound = e .sound }
 
 enum-told : tie.Need-enum-told Inv-loop μ-loop
 enum-told c = search needs
@@ -53,8 +53,8 @@ loop-again c =
     let u = c .before .before .before in
     let l = u .before .before in
     let v = l .before .loop .inv in
-    let e = u .unit-row .ensures in
-    (omega arith, u .unit-row .kept .1 .1 .0 ∙ v .1, e .sound, v .3 ∙ unitRows-go _ _ _ (l .loop-test .taken) (ran-done e (c .enum-told .given .1)))
+    let e = u .formed-row .ensures in
+    (omega arith, u .formed-row .kept .1 .1 .0 ∙ v .1, e .sound, v .3 ∙ formedRows-go _ _ _ (l .loop-test .taken) (ran-done e (c .enum-told .given .1)))
 
 same-length-2 : tie.Need-same-length-2 Inv-loop μ-loop
 same-length-2 c = search needs
@@ -62,16 +62,16 @@ same-length-2 c = search needs
 returns-2 : tie.Need-returns-2 Inv-loop μ-loop
 returns-2 c =
     let v = c .before .loop .inv in
-    record { is = sym (v .3 ∙ unitRows-end _ _ _ (c .loop-test .left)); sound = v .2 }
+    record { is = sym (v .3 ∙ formedRows-end _ _ _ (c .loop-test .left)); sound = v .2 }
 
-pub unit-rows-spec : {M : Type 1} → statement M
-unit-rows-spec =
+pub formed-rows-spec : {M : Type 1} → statement M
+formed-rows-spec =
     tie.close
     (tie.spec
     Inv-loop
     μ-loop
     loop-holds
-    unit-row-requires
+    formed-row-requires
     enum-known-e
     same-length
     returns

@@ -6,14 +6,14 @@ use borrow.Author.Needs.{needs}
 use borrow.Author.Tests.{not-true, not-false}
 use lib.ListN.{length}
 use Rattle.inputs.specs.Place.{Sound}
-use Rattle.elimination.specs.Unit.{unitRow}
-use Rattle.elimination.proofs.Unit.{unitRow-end, unitRow-go, unitRow-out}
+use Rattle.elimination.specs.Formed.{formedRow}
+use Rattle.elimination.proofs.Formed.{formedRow-end, formedRow-go, formedRow-out}
 use Rattle.elimination.proofs.Step.{working-after}
-use Rattle.elimination.proofs.internal.unit.unit_row.Statement.{statement}
-use Rattle.elimination.proofs.internal.unit.unit_row.Tie as tie
+use Rattle.elimination.proofs.internal.formed.formed_row.Statement.{statement}
+use Rattle.elimination.proofs.internal.formed.formed_row.Tie as tie
 
 abbrev Inv-loop : tie.InvT-loop
-Inv-loop n i t₀ j₀ t j = (j ≤ n) × (length t ≡ length t₀) × Sound t × (unitRow n i n 0 t₀ ≡ unitRow n i (n - j) j t)
+Inv-loop n i t₀ j₀ t j = (j ≤ n) × (length t ≡ length t₀) × Sound t × (formedRow n i n 0 t₀ ≡ formedRow n i (n - j) j t)
 
 abbrev μ-loop : tie.MeasureT-loop
 μ-loop n i t₀ j₀ t j = n - j
@@ -21,8 +21,8 @@ abbrev μ-loop : tie.MeasureT-loop
 loop-holds : tie.Need-loop-holds Inv-loop μ-loop
 loop-holds c = (omega arith, refl, c .pre .0 .sound, rw sub-zero)
 
-unit-entry-requires : tie.Need-unit-entry-requires Inv-loop μ-loop
-unit-entry-requires c κs =
+formed-entry-requires : tie.Need-formed-entry-requires Inv-loop μ-loop
+formed-entry-requires c κs =
     let l = c .before .before in
     let s = l .before in
     let v = l .loop .inv in
@@ -38,8 +38,8 @@ returns : tie.Need-returns Inv-loop μ-loop
 returns c =
     let u = c .before .before in
     let l = u .before .before in
-    let e = u .unit-entry .ensures in
-    record { is = sym (l .before .loop .inv .3 ∙ unitRow-out _ _ _ _ (l .loop-test .taken) e (not-true _ (c .if1 .taken))); sound = e .sound }
+    let e = u .formed-entry .ensures in
+    record { is = sym (l .before .loop .inv .3 ∙ formedRow-out _ _ _ _ (l .loop-test .taken) e (not-true _ (c .if1 .taken))); sound = e .sound }
 
 add-j : tie.Need-add-j Inv-loop μ-loop
 add-j c = search needs
@@ -52,8 +52,8 @@ loop-again c =
     let u = c .before .before in
     let l = u .before .before in
     let v = l .before .loop .inv in
-    let e = u .unit-entry .ensures in
-    (omega arith, u .unit-entry .kept .1 .1 .1 .0 ∙ v .1, e .sound, v .3 ∙ unitRow-go _ _ _ _ (l .loop-test .taken) e (not-false _ (c .if1 .left)))
+    let e = u .formed-entry .ensures in
+    (omega arith, u .formed-entry .kept .1 .1 .1 .0 ∙ v .1, e .sound, v .3 ∙ formedRow-go _ _ _ _ (l .loop-test .taken) e (not-false _ (c .if1 .left)))
 
 same-length-2 : tie.Need-same-length-2 Inv-loop μ-loop
 same-length-2 c = search needs
@@ -61,16 +61,16 @@ same-length-2 c = search needs
 returns-2 : tie.Need-returns-2 Inv-loop μ-loop
 returns-2 c =
     let v = c .before .loop .inv in
-    record { is = sym (v .3 ∙ unitRow-end _ _ _ _ (c .loop-test .left)); sound = v .2 }
+    record { is = sym (v .3 ∙ formedRow-end _ _ _ _ (c .loop-test .left)); sound = v .2 }
 
-pub unit-row-spec : {M : Type 1} → statement M
-unit-row-spec =
+pub formed-row-spec : {M : Type 1} → statement M
+formed-row-spec =
     tie.close
     (tie.spec
     Inv-loop
     μ-loop
     loop-holds
-    unit-entry-requires
+    formed-entry-requires
     add-t9
     same-length
     returns
