@@ -4,7 +4,7 @@
  * The calls of the archive target/staticlib/libcapi.a, which 'rt staticlib capi'
  * makes. It is for x86-64 Linux.
  *
- * THE INTERFACE IS NOT FROZEN. A later request adds a slice of load-cell
+ * THE INTERFACE IS NOT FROZEN. A later version adds a slice of load-cell
  * readings to the two eliminations and to the sweep. Header and archive must
  * come from the same version: C does not notice if they do not.
  *
@@ -164,6 +164,9 @@ KifwalebOutcome kifwaleb_eliminate_balance(size_t n,
  * Tightens bounds on the solutions of x = B*x + b. Takes n, B and b as above, a
  * start box, and the number of sweeps allowed, 1 to 10,000. Every solution in the
  * start box is in the box written, and no bound gets wider.
+ * To tighten a box that kifwaleb_eliminate wrote from A and f, lend B = I - A and
+ * b = f: for an entry [lo, hi] of A, [1000000 - hi, 1000000 - lo] on the diagonal
+ * and [-hi, -lo] elsewhere. A itself in B's place tightens something else.
  * DONE if settled: the last whole sweep changed nothing. SPENT if the last sweep
  * allowed still changed a bound. Either writes the box over the start box, and the
  * count is of the whole sweeps done, the one that changed nothing included. Else

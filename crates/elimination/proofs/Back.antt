@@ -9,7 +9,7 @@ use lib.IntN.{ℤ}
 use Rattle.outcome.specs.declared.Outcome.the-variants as outcome
 use Rattle.interval.specs.declared.Interval.{Interval}
 use Rattle.interval.specs.Interval.{acceptable, containsZero, inRange, exactDifference}
-use Rattle.interval.specs.Size.{Representable}
+use Rattle.interval.specs.Code.{Representable}
 use Rattle.interval.proofs.Range.{accept}
 use Rattle.inputs.specs.Place.{at, Sound, put}
 use Rattle.inputs.proofs.Place.{at-put-other}

@@ -2,7 +2,7 @@
 use mathlib.Core.Path.{_≡_, refl, sym, _∙_}
 use mathlib.Core.Bool.{Bool, true, false, cond}
 use mathlib.Core.List.{List}
-use Prim.Native.Nat.{ℕ, suc, _+_, _-_, _*_, _≤_, _<_}
+use Prim.Native.Nat.{ℕ, _+_, _-_, _*_, _≤_, _<_}
 use native.Mathlib.Omega.{arith}
 use borrow.Author.Tests.{eq-eqb, ne-eqb}
 use lib.Dec.{eqb}
@@ -13,7 +13,7 @@ use Rattle.outcome.specs.declared.Outcome.{Outcome}
 use Rattle.outcome.specs.declared.Outcome.the-variants as outcome
 use Rattle.interval.specs.declared.Interval.{Interval}
 use Rattle.interval.specs.Interval.{scale, lowest, highest, point, zero, one, within, inRange, acceptable, exactDifference}
-use Rattle.interval.specs.Size.{Representable}
+use Rattle.interval.specs.Code.{Representable}
 use Rattle.inputs.specs.Place.{at, Sound}
 use Rattle.rows.proofs.Size.{Small, acceptable-small, difference-small, small-fits}
 use Rattle.elimination.specs.Run.{stop, done, andThen, inRangeThen, cell}

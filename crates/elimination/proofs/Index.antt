@@ -1,5 +1,4 @@
 -- The positions of the cells and of the right side, and that the working copy has room for them.
-use mathlib.Core.Path.{_≡_}
 use mathlib.Core.List.{List}
 use Prim.Native.Nat.{ℕ, _+_, _*_, _≤_, _<_}
 use native.Mathlib.Omega.{arith}

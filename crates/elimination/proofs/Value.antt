@@ -1,19 +1,17 @@
 -- The values that the calculation makes fit the machine and have their ends in sequence; in the range, they are intervals again.
 use mathlib.Core.Path.{_≡_}
 use mathlib.Core.Bool.{true, false}
-use Prim.Native.Nat.{ℕ, _+_, _*_, _≤_}
+use Prim.Native.Nat.{_≤_}
 use native.Mathlib.Omega.{arith}
 use lib.IntN.{ℤ}
 use lib.Signed.{_≤ℤ_}
-use mathlib.Core.List.{List}
 use Rattle.interval.specs.declared.Interval.{Interval}
 use Rattle.interval.specs.Interval.{acceptable, containsZero, inRange, exactDifference, product, quotient}
-use Rattle.interval.specs.Size.{Representable}
+use Rattle.interval.specs.Code.{Representable}
 use Rattle.interval.proofs.Range.{is-sound, accept}
 use Rattle.fraction.specs.Fraction.{millionths}
 use Rattle.fraction.proofs.Hull.{hull-order}
 use Rattle.fraction.proofs.Quotient.{quotient-hull}
-use Rattle.inputs.specs.Place.{at, Sound}
 use Rattle.rows.proofs.Size.{Small, acceptable-small, product-small, difference-small, small-fits}
 
 -- a − m·b

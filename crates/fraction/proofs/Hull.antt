@@ -7,7 +7,7 @@ use Rattle.integer.proofs.Linear.{linear, over}
 use Rattle.integer.proofs.Order.{whole-below}
 use Rattle.integer.proofs.Rounding.{floor-high}
 use Rattle.interval.specs.declared.Interval.{Interval}
-use Rattle.interval.specs.Interval.{negated}
+use Rattle.interval.specs.Code.{negated}
 use Rattle.fraction.specs.Fraction.{Fraction, Inside, Operation}
 use Rattle.fraction.specs.Meaning.{Result, Holds, Tight, Narrowest, Hull}
 use Rattle.fraction.proofs.Inside.{opposite, opposite-opposite, negated-negated, inside-negated, to-above, in-order}

@@ -6,7 +6,8 @@ use lib.Signed.{_≤ℤ_, _<ℤ_, ltZ-yes, ≤ℤ-refl}
 use Rattle.integer.proofs.Linear.{linear, over}
 use Rattle.integer.proofs.Order.{also, prod, trans, turn-le, lt-le, cancel}
 use Rattle.integer.proofs.Extremes.{min-ind, max-ind}
-use Rattle.interval.specs.Interval.{intersection, negated}
+use Rattle.interval.specs.Interval.{intersection}
+use Rattle.interval.specs.Code.{negated}
 use Rattle.interval.specs.declared.Interval.{Interval}
 use Rattle.fraction.specs.Fraction.{Fraction, Inside, Same}
 

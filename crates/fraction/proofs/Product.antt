@@ -9,7 +9,7 @@ use Rattle.integer.proofs.Linear.{linear, over}
 use Rattle.integer.proofs.Order.{also, prod, lt-le, trans, corners}
 use Rattle.integer.proofs.Rounding.{floor-low}
 use Rattle.interval.specs.Interval
-use Rattle.interval.specs.Interval.{negated}
+use Rattle.interval.specs.Code.{negated}
 use Rattle.interval.specs.declared.Interval.{Interval}
 use Rattle.fraction.specs.Fraction.{Fraction, Inside, Scale, productAt, ProductAt}
 use Rattle.fraction.specs.Meaning.{Result, Hull}

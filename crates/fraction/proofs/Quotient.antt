@@ -12,7 +12,7 @@ use Rattle.integer.proofs.Linear.{linear, over}
 use Rattle.integer.proofs.Order.{also, prod, lt-le, neg-pos, cancel, both-pos, corners}
 use Rattle.integer.proofs.Rounding.{floor-iff}
 use Rattle.interval.specs.Interval
-use Rattle.interval.specs.Interval.{negated}
+use Rattle.interval.specs.Code.{negated}
 use Rattle.interval.specs.declared.Interval.{Interval}
 use Rattle.interval.proofs.Range.{apart}
 use Rattle.interval.proofs.Quotient.{quotient-turned}

@@ -6,7 +6,8 @@ use lib.Signed.{_≤ℤ_, _<ℤ_}
 use Rattle.integer.proofs.Ring.{neg-*ℤ}
 use Rattle.integer.proofs.Linear.{linear, over}
 use Rattle.integer.proofs.Order.{also, prod, lt-le}
-use Rattle.interval.specs.Interval.{exactSum, exactDifference, negated}
+use Rattle.interval.specs.Interval.{exactSum, exactDifference}
+use Rattle.interval.specs.Code.{negated}
 use Rattle.interval.specs.declared.Interval.{Interval}
 use Rattle.fraction.specs.Fraction.{Fraction, Inside, sum, difference, Sum, Difference}
 use Rattle.fraction.specs.Meaning.{Result, Hull}

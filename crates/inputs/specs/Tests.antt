@@ -57,7 +57,7 @@ unfoldable pub allProper : ℕ → List Part → Test
 allProper from [] = Pass
 allProper from (s ∷ ss) = both (proper (s .numbers) (s .count) 0 from) (allProper (from + s .count) ss)
 
--- 'matrix, right side, box', the three slices that every call is lent
+-- 'matrix, right side, box', the three slices that an elimination or a sweep is lent
 abbrev pub slices : (n matrix right box : ℕ) → List Slice
 slices n m r b =
     record { place = 1; held = m; wanted = n * n } ∷ record { place = 2; held = r; wanted = n } ∷ record { place = 3; held = b; wanted = n } ∷ []

@@ -1,7 +1,7 @@
 -- What a proof of code on `i64` asks of ℤ: a value's range, a value read back from its bits, the machine's quotient against the floor.
 use mathlib.Core.Path.{_≡_, refl, _∙_}
 use mathlib.Core.Logic.{_↔_, ⊎-elim}
-use Prim.Native.Nat.{ℕ, zero, suc, _*_, _/_, _%_, _≤_, _<_, _^_}
+use Prim.Native.Nat.{ℕ, zero, suc, _*_, _/_, _≤_, _<_, _^_}
 use native.Mathlib.Omega.{arith}
 use native.Mathlib.Nat.{div-add-mod, mod-lt, div-le-self}
 use lib.Dec.{T, ltb→lt, leb→le, le→leb}

@@ -1,13 +1,12 @@
 -- A normal form of polynomials over ℤ that computes: an expression and its normal form have one value (`normal-value`).
 -- `Expr` is an expression over numbered unknowns, `Values` says what each unknown is, `value ρ e` is its value, `normal e` its normal form.
-use mathlib.Core.Path.{_≡_, refl, sym, ap, ap₂, _∙_, subst, subst₂}
-use mathlib.Core.Logic.{_↔_}
+use mathlib.Core.Path.{_≡_, refl, sym, ap, ap₂, _∙_, subst}
 use mathlib.Core.Bool.{Bool, true, false}
 use mathlib.Core.List.{List, [], _∷_}
-use Prim.Native.Nat.{ℕ, zero, suc, _+_, _*_, _≤_, _<_, compare, Ordering, Ordering·lt, Ordering·eq, Ordering·gt}
+use Prim.Native.Nat.{ℕ, zero, suc, _+_, _*_, compare, Ordering, Ordering·lt, Ordering·eq, Ordering·gt}
 use lib.Dec.{T, leb, isEq, eqb→eq}
-use lib.IntN.{ℤ, pos, negsuc, negℤ, one, _+ℤ_, _-ℤ_, _*ℤ_, +ℤ-idl, +ℤ-idr, +ℤ-assoc, +ℤ-comm, *ℤ-comm, *ℤ-one, zero-*ℤ, *ℤ-zero, negℤ-+ℤ, negℤ-negℤ}
-use Rattle.integer.proofs.Ring.{+ℤ-left-comm, *ℤ-distr, *ℤ-distl, *ℤ-assoc, neg-*ℤ, *ℤ-neg}
+use lib.IntN.{ℤ, pos, negsuc, negℤ, one, _+ℤ_, _-ℤ_, _*ℤ_, +ℤ-idl, +ℤ-idr, +ℤ-assoc, *ℤ-comm, *ℤ-one, zero-*ℤ, *ℤ-zero}
+use Rattle.integer.proofs.Ring.{+ℤ-left-comm, *ℤ-distr, *ℤ-distl, *ℤ-assoc, neg-*ℤ}
 
 infixl 6 _⊕_ _⊖_
 infixl 7 _⊗_

@@ -1,5 +1,5 @@
 -- The ends of a quotient by a positive interval, and a negative divisor turned into a positive one.
-use mathlib.Core.Path.{_≡_, refl, sym, ap, ap₂, _∙_}
+use mathlib.Core.Path.{_≡_, sym, ap, _∙_}
 use lib.IntN.{ℤ, pos, negℤ, _*ℤ_, negℤ-negℤ}
 use lib.Signed.{_≤ℤ_, _<ℤ_, <ℤ-≤ℤ-trans}
 use Rattle.integer.specs.Rounding.{floorDiv, ceilDiv}
@@ -9,7 +9,8 @@ use Rattle.integer.proofs.Order.{trans, le-lt-trans, mono, neg-pos}
 use Rattle.integer.proofs.Rounding.{floor-mono, ceil-mono, floor-turn, ceil-turn}
 use Rattle.integer.proofs.Extremes.{min-le-left, min-le-right, le-max-left, le-max-right, le-min, max-le, min-is-left, max-is-right}
 use Rattle.interval.specs.declared.Interval.{Interval}
-use Rattle.interval.specs.Interval.{quotientAt, negated}
+use Rattle.interval.specs.Interval.{quotientAt}
+use Rattle.interval.specs.Code.{negated}
 use Rattle.interval.proofs.Range.{same-ends}
 use Rattle.interval.proofs.Corners.{least-back, greatest-back}
 

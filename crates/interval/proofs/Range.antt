@@ -13,8 +13,8 @@ use Rattle.integer.proofs.Linear.{linear, over}
 use Rattle.integer.proofs.Order.{also, prod, lt-le, taken, left, le-taken, le-left, yes-le, turn-le}
 use Rattle.integer.proofs.Machine.{fits64, op-safe, op-read}
 use Rattle.interval.specs.declared.Interval.{Interval}
-use Rattle.interval.specs.Interval.{scale, lowest, highest, within, inRange, acceptable, containsZero, exactSum, exactDifference, negated}
-use Rattle.interval.specs.Size.{Representable}
+use Rattle.interval.specs.Interval.{scale, lowest, highest, within, inRange, acceptable, containsZero, exactSum, exactDifference}
+use Rattle.interval.specs.Code.{Representable, negated}
 
 pub and-both : (a b : Bool) → (a && b) ≡ true → (a ≡ true) × (b ≡ true)
 and-both true b e = (refl, e)

@@ -1,7 +1,6 @@
 -- Document 01, Bounds in units and Outcomes: what each of the four public calls returns, in the table's numbers.
-use mathlib.Core.Bool.{Bool, cond}
+use mathlib.Core.Bool.{cond}
 use Prim.Native.Nat.{ℕ}
-use lib.Dec.{ltb}
 use lib.IntN.{ℤ}
 use Rattle.outcome.specs.Table as Table
 use Rattle.outcome.specs.declared.Outcome.{Outcome}
@@ -20,10 +19,10 @@ pub record Answer : Type 0 where
 abbrev pub answer : Outcome → Interval → Answer
 answer o v = record { number = Table.paper o .number; place = Table.paper o .place; lower = v .lo; upper = v .hi }
 
--- document 01 leaves the interval of a refusal free: it is nought
 abbrev pub value : Interval → Answer
 value v = answer outcome.Done v
 
+-- document 01 leaves the interval of a refusal free: it is nought
 abbrev pub refusal : Outcome → Answer
 refusal o = answer o zero
 
@@ -34,12 +33,9 @@ paper (BadOperand operand) = refusal (outcome.Ends operand)
 paper ZeroDivisor = refusal (outcome.ContainsZero 0)
 paper OutOfRange = refusal (outcome.OutOfRange 0)
 
--- 'Each test before the calculation returns the lowest place at which it fails': operand 0 or 1, or 2 if both are intervals
-unfoldable pub badOperand : Interval → Interval → ℕ
-badOperand x y = cond (acceptable x) (cond (acceptable y) 2 1) 0
-
+-- 'Each test before the calculation returns the lowest place at which it fails'
 unfoldable pub tested : Interval → Interval → Answer → Answer
-tested x y a = cond (ltb (badOperand x y) 2) (refusal (outcome.Ends (badOperand x y))) a
+tested x y a = cond (acceptable x) (cond (acceptable y) a (refusal (outcome.Ends 1))) (refusal (outcome.Ends 0))
 
 -- 'a result out of the range'
 unfoldable pub ranged : Interval → Answer

@@ -1,6 +1,6 @@
 -- Document 01, Bounds in units: the interval, its constants, and the arithmetic on it with outward rounding.
 use mathlib.Core.Bool.{Bool, _&&_}
-use lib.IntN.{ℤ, pos, negsuc, negℤ, _+ℤ_, _-ℤ_, _*ℤ_}
+use lib.IntN.{ℤ, pos, negsuc, _+ℤ_, _-ℤ_, _*ℤ_}
 use lib.Signed.{leZ, ltZ}
 use Rattle.integer.specs.Rounding.{floorDiv, ceilDiv}
 use Rattle.integer.specs.Extremes.{minimum, maximum}
@@ -66,7 +66,7 @@ abbrev pub greatestProduct : Interval → Interval → ℤ
 greatestProduct x y = greatest (x .lo *ℤ y .lo) (x .lo *ℤ y .hi) (x .hi *ℤ y .lo) (x .hi *ℤ y .hi)
 
 -- 'the lowest of the four end results rounded towards minus infinity, the highest towards plus infinity', with s units in one whole:
--- a product of two counts of units has s·s parts, and a quotient of two has none
+-- the product of two counts of units counts s-ths of a unit, so it is divided by s; of a quotient the dividend is first multiplied by s
 unfoldable pub productAt : ℤ → Interval → Interval → Interval
 productAt s x y = record { lo = floorDiv (leastProduct x y) s; hi = ceilDiv (greatestProduct x y) s }
 
@@ -84,10 +84,7 @@ product = productAt scale
 abbrev pub quotient : Interval → Interval → Interval
 quotient = quotientAt scale
 
--- all signs turned
-abbrev pub negated : Interval → Interval
-negated v = record { lo = negℤ (v .hi); hi = negℤ (v .lo) }
-
+-- 'is intersected with X(i)'
 unfoldable pub intersection : Interval → Interval → Interval
 intersection x y = record { lo = maximum (x .lo) (y .lo); hi = minimum (x .hi) (y .hi) }
 

@@ -1,3 +1,3 @@
 pub mod Interval
-pub mod Size
+pub mod Code
 pub mod Answer

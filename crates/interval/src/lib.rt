@@ -2,7 +2,8 @@ pub mod internal;
 
 ghost use mathlib.Core.Path.{_≡_};
 ghost use Rattle.interval.specs.Interval.{point};
-ghost use Rattle.interval.specs.Answer.{paper, badOperand, ranged, sumAnswer, differenceAnswer, productAnswer, quotientAnswer};
+ghost use Rattle.interval.specs.Answer.{paper, ranged, sumAnswer, differenceAnswer, productAnswer, quotientAnswer};
+ghost use Rattle.interval.specs.Code.{badOperand};
 
 // Document 01, Bounds in units: a lower and an upper end, each a count of units of one millionth.
 pub struct Interval {
@@ -70,7 +71,7 @@ impl Interval {
         if bad < 2 {
             return Step::BadOperand(bad);
         }
-        in_range_only(internal::product(self, other))
+        in_range_only(internal::product::product(self, other))
     }
 
     pub fn quotient(self, other: Interval) -> Step
@@ -83,7 +84,7 @@ impl Interval {
         if internal::contains_zero(other) {
             return Step::ZeroDivisor;
         }
-        in_range_only(internal::quotient(self, other))
+        in_range_only(internal::quotient::quotient(self, other))
     }
 }
 

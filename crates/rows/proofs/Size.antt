@@ -1,5 +1,5 @@
 -- How large a sum of rounded products can be: each is at most 4·10¹² units.
-use mathlib.Core.Path.{_≡_, subst}
+use mathlib.Core.Path.{_≡_}
 use mathlib.Core.Bool.{true}
 use Prim.Native.Nat.{ℕ, _+_, _*_, _≤_}
 use native.Mathlib.Omega.{arith}
@@ -14,8 +14,8 @@ use Rattle.integer.proofs.Rounding.{floor-iff, ceil-iff}
 use Rattle.integer.proofs.Machine.{fits64}
 use Rattle.interval.specs.declared.Interval.{Interval}
 use Rattle.interval.specs.Interval.{scale, lowest, highest, acceptable, exactSum, exactDifference, productAt, product, zero}
-use Rattle.interval.specs.Size.{Representable}
-use Rattle.interval.proofs.Range.{Within, Sound, is-sound, scale-above}
+use Rattle.interval.specs.Code.{Representable}
+use Rattle.interval.proofs.Range.{Within, is-sound, scale-above}
 use Rattle.interval.proofs.Corners.{least-ind, greatest-ind}
 use Rattle.fraction.specs.Fraction.{millionths}
 use Rattle.fraction.proofs.Hull.{hull-order}

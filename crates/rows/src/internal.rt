@@ -1,6 +1,6 @@
 use inputs::internal::read;
 use interval::Interval;
-use interval::internal::product;
+use interval::internal::product::product;
 use interval::internal::sum;
 ghost use mathlib.Core.Path.{_≡_};
 ghost use Prim.Native.Nat.{_+_, _*_, _≤_};

@@ -11,7 +11,7 @@ use Rattle.integer.proofs.Order.{left, trans}
 use Rattle.integer.proofs.Extremes.{le-max-right, min-le-right}
 use Rattle.interval.specs.declared.Interval.{Interval}
 use Rattle.interval.specs.Interval.{acceptable, exactSum, intersection, isEmpty}
-use Rattle.interval.specs.Size.{Representable}
+use Rattle.interval.specs.Code.{Representable}
 use Rattle.interval.proofs.Range.{is-sound, sound-accepted}
 use Rattle.inputs.specs.Tests.{System, system}
 use Rattle.inputs.specs.Place.{at, put, Sound}

@@ -151,7 +151,7 @@ fn at_the_limits(notes: &mut Notes) {
     refuses(notes, Quotient, point(LIMIT), point(ONE - 1), (6, 0));
     refuses(notes, Quotient, point(-LIMIT), point(ONE - 1), (6, 0));
     refuses(notes, Quotient, point(LIMIT), point(1), (6, 0));
-    notes.remark("out of the range by rounding alone");
+    notes.remark("past the range, with a remainder");
     refuses(notes, Product, point(1_999_999_999), point(ONE + 1), (6, 0));
     refuses(
         notes,

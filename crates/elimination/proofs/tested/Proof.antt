@@ -1,10 +1,10 @@
 use borrow.Author.Needs.{needs}
-use mathlib.Core.Path.{_≡_, sym, ap, _∙_}
+use mathlib.Core.Path.{_≡_, sym, _∙_}
 use native.Mathlib.Omega.{arith}
 use denote.Ref.{now}
 use lib.ListN.{length}
 use Rattle.inputs.specs.declared.Test.the-variants.{Pass}
-use Rattle.inputs.specs.Tests.{sizes, proper}
+use Rattle.inputs.specs.Tests.{sizes}
 use Rattle.inputs.proofs.Tests.{Fitting, sizes-pass, square}
 use Rattle.elimination.proofs.Call.{tests-sizes, tests-matrix, tests-right}
 use Rattle.elimination.proofs.tested.Statement.{statement}

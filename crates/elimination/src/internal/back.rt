@@ -3,7 +3,7 @@ use crate::internal::step::place;
 use inputs::internal::read;
 use interval::internal::difference;
 use interval::internal::in_range;
-use interval::internal::quotient;
+use interval::internal::quotient::quotient;
 use outcome::Outcome;
 use rows::internal::row_sum;
 ghost use mathlib.Core.Path.{_≡_};

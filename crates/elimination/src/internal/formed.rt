@@ -4,7 +4,6 @@ use inputs::internal::read;
 use interval::Interval;
 use interval::internal::difference;
 use outcome::Outcome;
-ghost use mathlib.Core.Path.{_≡_};
 ghost use Prim.Native.Nat.{_<_};
 ghost use Rattle.interval.specs.Interval.{exactDifference};
 ghost use Rattle.inputs.specs.Place.{at};

@@ -3,7 +3,7 @@ use inputs::internal::write;
 use interval::Interval;
 use interval::internal::difference;
 use interval::internal::in_range;
-use interval::internal::product;
+use interval::internal::product::product;
 ghost use mathlib.Core.Path.{_≡_};
 ghost use mathlib.Core.Bool.{true};
 ghost use Prim.Native.Nat.{_+_, _*_, _<_};

@@ -1,6 +1,6 @@
 use mathlib.Core.Path.{sym, _∙_}
 use borrow.Author.Needs.{needs}
-use Rattle.interval.specs.Answer.{badOperand}
+use Rattle.interval.specs.Code.{badOperand}
 use Rattle.interval.proofs.bad_operand.Statement.{statement}
 use Rattle.interval.proofs.bad_operand.Tie as tie
 

@@ -1,5 +1,5 @@
-use mathlib.Core.Path.{_≡_, _∙_}
-use lib.IntN.{ℤ, pos, _+ℤ_}
+use mathlib.Core.Path.{_∙_}
+use lib.IntN.{ℤ, pos}
 use lib.Signed.{_<ℤ_, remZ}
 use mir.Syntax.{w64}
 use mir.ValLaws.{toZ-ofZ}

@@ -1,6 +1,6 @@
 use mathlib.Core.Path.{_≡_, _∙_}
-use lib.IntN.{ℤ, pos, _-ℤ_}
-use lib.Signed.{quotZ, remZ}
+use lib.IntN.{pos, _-ℤ_}
+use lib.Signed.{quotZ}
 use mir.Syntax.{w64}
 use mir.ValLaws.{toZ-ofZ}
 use Rattle.integer.specs.Rounding.{floorDiv}

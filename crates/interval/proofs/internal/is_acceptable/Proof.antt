@@ -1,9 +1,8 @@
-use mathlib.Core.Path.{_≡_, sym, _∙_}
 use borrow.Author.Needs.{needs}
 use mir.Syntax.{w64}
 use mir.Val.{SFits}
 use mir.ValLaws.{toZ-ofZ}
-use Rattle.interval.specs.Interval.{acceptable, inRange}
+use Rattle.interval.specs.Interval.{acceptable}
 use Rattle.interval.proofs.internal.is_acceptable.Statement.{statement}
 use Rattle.interval.proofs.internal.is_acceptable.Tie as tie
 

@@ -4,7 +4,7 @@ use borrow.Author.Needs.{needs}
 use denote.Ref.{now}
 use Rattle.interval.specs.declared.Interval.{Interval}
 use Rattle.interval.specs.Interval.{inRange, quotient}
-use Rattle.inputs.specs.Place.{at, put}
+use Rattle.inputs.specs.Place.{at}
 use Rattle.elimination.specs.Run.{cell}
 use Rattle.elimination.proofs.Index.{row-small, cell-room}
 use Rattle.elimination.proofs.Value.{quotient-order}

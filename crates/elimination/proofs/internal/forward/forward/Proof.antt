@@ -1,7 +1,6 @@
 use mathlib.Core.Path.{_≡_, refl, sym, ap, _∙_}
-use Prim.Native.Nat.{ℕ, _+_, _-_, _≤_, _<_}
+use Prim.Native.Nat.{_+_, _-_, _≤_, _<_}
 use native.Mathlib.Omega.{arith}
-use native.Mathlib.Nat.{sub-zero}
 use borrow.Author.Needs.{needs}
 use borrow.Author.Tests.{not-true, not-false}
 use lib.ListN.{length}
@@ -9,7 +8,7 @@ use denote.Ref.{now}
 use mathlib.Core.Bool.{true, false}
 use Rattle.outcome.specs.declared.Outcome.{Outcome}
 use Rattle.interval.specs.Interval.{acceptable, containsZero}
-use Rattle.elimination.specs.Run.{stop, done}
+use Rattle.elimination.specs.Run.{stop}
 use Rattle.elimination.specs.Forward.{columns, rows, pivots, forward}
 use Rattle.elimination.specs.declared.internal.Ending.{Ending}
 use Rattle.elimination.specs.Code.{Working, runOf}

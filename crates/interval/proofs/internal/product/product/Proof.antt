@@ -8,8 +8,8 @@ use Rattle.integer.proofs.Machine.{plain}
 use Rattle.interval.specs.Interval.{scale, leastProduct, greatestProduct, productAt}
 use Rattle.interval.proofs.Range.{is-sound, same-ends}
 use Rattle.interval.proofs.Scaled.{least-bounded, greatest-bounded}
-use Rattle.interval.proofs.internal.product.Statement.{statement}
-use Rattle.interval.proofs.internal.product.Tie as tie
+use Rattle.interval.proofs.internal.product.product.Statement.{statement}
+use Rattle.interval.proofs.internal.product.product.Tie as tie
 
 least-product-requires : tie.Need-least-product-requires
 least-product-requires c κs = search needs

@@ -1,12 +1,12 @@
 use mathlib.Core.Path.{_∙_}
 use lib.IntN.{pos}
 use lib.Signed.{leZ-yes}
-use Rattle.integer.proofs.Rounding.{ceil-biased}
+use Rattle.integer.proofs.Rounding.{floor-biased}
 use Rattle.interval.specs.Interval.{scale}
 use Rattle.interval.proofs.Range.{scale-above}
 use Rattle.interval.proofs.Scaled.{biased-add, biased-cast, biased-part, biased-less, biased-read}
-use Rattle.interval.proofs.internal.scaled_up.Statement.{statement}
-use Rattle.interval.proofs.internal.scaled_up.Tie as tie
+use Rattle.interval.proofs.internal.product.scaled_down.Statement.{statement}
+use Rattle.interval.proofs.internal.product.scaled_down.Tie as tie
 
 add-n : tie.Need-add-n
 add-n c = biased-add _ _ (c .fits .p) (c .pre) (leZ-yes tt) (leZ-yes tt)
@@ -22,7 +22,7 @@ sub-result c = biased-less _ _ (c .fits .p) (c .pre) (leZ-yes tt) (leZ-yes tt)
 
 returns : tie.Need-returns
 unfolding scale
-returns c = biased-read _ _ (c .fits .p) (c .pre) (leZ-yes tt) (leZ-yes tt) ∙ ceil-biased (c .args .p) (pos 1000000) (pos 4000000000000) scale-above
+returns c = biased-read _ _ (c .fits .p) (c .pre) (leZ-yes tt) (leZ-yes tt) ∙ floor-biased (c .args .p) (pos 1000000) (pos 4000000000000) scale-above
 
-pub scaled-up-spec : {M : Type 1} → statement M
-scaled-up-spec = tie.close (tie.spec add-n cast-n cast-q sub-result returns)
+pub scaled-down-spec : {M : Type 1} → statement M
+scaled-down-spec = tie.close (tie.spec add-n cast-n cast-q sub-result returns)

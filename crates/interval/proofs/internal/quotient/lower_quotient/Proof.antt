@@ -8,8 +8,8 @@ use Rattle.integer.proofs.Order.{taken, left}
 use Rattle.integer.proofs.Rounding.{floor-grows, floor-falls}
 use Rattle.integer.proofs.Extremes.{min-is-left, min-is-right}
 use Rattle.integer.proofs.Machine.{plain}
-use Rattle.interval.proofs.internal.lower_quotient.Statement.{statement}
-use Rattle.interval.proofs.internal.lower_quotient.Tie as tie
+use Rattle.interval.proofs.internal.quotient.lower_quotient.Statement.{statement}
+use Rattle.interval.proofs.internal.quotient.lower_quotient.Tie as tie
 
 floor-div-requires : tie.Need-floor-div-requires
 floor-div-requires c κs = search needs

@@ -4,8 +4,8 @@ use Rattle.integer.specs.Extremes.{minimum}
 use Rattle.integer.proofs.Machine.{plain}
 use Rattle.interval.proofs.Range.{Sound, is-sound, product-safe, product-read, negative-taken, negative-left, above-taken, above-left, below-taken, below-left}
 use Rattle.interval.proofs.Signs.{above-least-above, above-least-below, below-least-above, below-least-below, across-least}
-use Rattle.interval.proofs.internal.least_product.Statement.{statement}
-use Rattle.interval.proofs.internal.least_product.Tie as tie
+use Rattle.interval.proofs.internal.product.least_product.Statement.{statement}
+use Rattle.interval.proofs.internal.product.least_product.Tie as tie
 
 abbrev start : tie.After-struct-told4 → tie.Start
 start c = c .before .before .before .before

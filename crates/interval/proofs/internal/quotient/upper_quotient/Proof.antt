@@ -8,8 +8,8 @@ use Rattle.integer.proofs.Order.{taken, left}
 use Rattle.integer.proofs.Rounding.{ceil-falls, ceil-grows}
 use Rattle.integer.proofs.Extremes.{max-is-left, max-is-right}
 use Rattle.integer.proofs.Machine.{plain}
-use Rattle.interval.proofs.internal.upper_quotient.Statement.{statement}
-use Rattle.interval.proofs.internal.upper_quotient.Tie as tie
+use Rattle.interval.proofs.internal.quotient.upper_quotient.Statement.{statement}
+use Rattle.interval.proofs.internal.quotient.upper_quotient.Tie as tie
 
 ceil-div-requires : tie.Need-ceil-div-requires
 ceil-div-requires c κs = search needs

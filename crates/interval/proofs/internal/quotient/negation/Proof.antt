@@ -1,9 +1,8 @@
 use borrow.Author.Needs.{needs}
 use lib.IntN.{+ℤ-idl}
-use Rattle.interval.specs.Interval.{negated}
-use Rattle.interval.proofs.Range.{Sound, is-sound, turn-fits}
-use Rattle.interval.proofs.internal.negation.Statement.{statement}
-use Rattle.interval.proofs.internal.negation.Tie as tie
+use Rattle.interval.proofs.Range.{is-sound, turn-fits}
+use Rattle.interval.proofs.internal.quotient.negation.Statement.{statement}
+use Rattle.interval.proofs.internal.quotient.negation.Tie as tie
 
 sub-lo : tie.Need-sub-lo
 sub-lo c = let h = is-sound _ (c .before .before .pre) in search (needs, turn-fits)

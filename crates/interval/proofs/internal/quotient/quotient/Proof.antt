@@ -7,11 +7,12 @@ use mir.Syntax.{w64}
 use mir.ValLaws.{toZ-ofZ}
 use Rattle.integer.proofs.Order.{taken, left, neg-pos}
 use Rattle.interval.specs.declared.Interval.{Interval}
-use Rattle.interval.specs.Interval.{scale, negated, acceptable, quotient}
+use Rattle.interval.specs.Interval.{scale, acceptable, quotient}
+use Rattle.interval.specs.Code.{negated}
 use Rattle.interval.proofs.Range.{is-sound, sound-accepted, within-fits, negated-sound, all-below}
 use Rattle.interval.proofs.Quotient.{quotient-turned}
-use Rattle.interval.proofs.internal.quotient.Statement.{statement}
-use Rattle.interval.proofs.internal.quotient.Tie as tie
+use Rattle.interval.proofs.internal.quotient.quotient.Statement.{statement}
+use Rattle.interval.proofs.internal.quotient.quotient.Tie as tie
 
 quotient-by-positive-requires : tie.Need-quotient-by-positive-requires
 quotient-by-positive-requires c κs =

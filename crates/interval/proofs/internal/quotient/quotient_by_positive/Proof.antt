@@ -1,5 +1,4 @@
-use mathlib.Core.Path.{_≡_, sym, ap, ap₂, _∙_}
-use borrow.Author.Needs.{needs}
+use mathlib.Core.Path.{sym, _∙_}
 use lib.Signed.{ltZ-yes}
 use mir.Syntax.{w64}
 use mir.ValLaws.{toZ-ofZ}
@@ -8,8 +7,8 @@ use Rattle.integer.proofs.Order.{lt-le}
 use Rattle.interval.specs.Interval.{scale}
 use Rattle.interval.proofs.Range.{is-sound, within-fits, product-fits, scale-within, scaled-read, same-ends}
 use Rattle.interval.proofs.Quotient.{positive}
-use Rattle.interval.proofs.internal.quotient_by_positive.Statement.{statement}
-use Rattle.interval.proofs.internal.quotient_by_positive.Tie as tie
+use Rattle.interval.proofs.internal.quotient.quotient_by_positive.Statement.{statement}
+use Rattle.interval.proofs.internal.quotient.quotient_by_positive.Tie as tie
 
 mul-a : tie.Need-mul-a
 unfolding scale
