@@ -167,9 +167,10 @@ impl TextTally {
         let sum = |wanted: fn(&TextEvent) -> bool| self.counts.sum(wanted);
         let refused = REFUSALS.map(|number| format!("{number}: {}", self.refused.count_of(number)));
         format!(
-            "settled: {}, spent: {}, {}, 7: {}, 8: {}",
+            "settled: {}, spent: {}, 2: {}, {}, 7: {}, 8: {}",
             sum(|event| matches!(event, TextEvent::Settled { .. })),
             sum(|event| matches!(event, TextEvent::Spent { .. })),
+            sum(|event| matches!(event, TextEvent::Length)),
             refused.join(", "),
             sum(|event| matches!(event, TextEvent::Empty)),
             sum(|event| matches!(event, TextEvent::TooLong | TextEvent::FaultyLine { .. })),
