@@ -1,14 +1,7 @@
 //! Texts whose reading was worked out by hand.
 
 use super::{name_range, read_text, CellarText, TextFault, LONGEST_NAME, MOST_BYTES};
-
-/// Two vats; the same lines as in document 01.
-const LINES: [&str; 4] = [
-    "V1;V2\n",
-    "0:0;0:500000\n",
-    "500000:500000;0:0\n",
-    "3000000:3000000;0:0\n",
-];
+use crate::samples::texts::{with_line, with_lower, FAULTY_LINES, FAULTY_LOWER_ENDS, LINES};
 
 /// The line of the first fault, 0 for a text that is too long.
 fn fault(text: &[u8]) -> Option<u64> {
@@ -18,18 +11,6 @@ fn fault(text: &[u8]) -> Option<u64> {
         assert_eq!((outcome.number, outcome.count), (8, 0));
         outcome.place
     })
-}
-
-/// The two vats with another line of that number.
-fn with_line(number: usize, line: &str) -> String {
-    let mut lines = LINES;
-    lines[number - 1] = line;
-    lines.concat()
-}
-
-/// One vat whose share has this lower end.
-fn with_lower(lower: &str) -> String {
-    format!("a\n{lower}:9999999999\n0:0\n")
 }
 
 fn one_vat(name: &str) -> String {
@@ -69,40 +50,14 @@ fn numbers_are_written_in_one_way_only() {
         let read = read_text(text.as_bytes()).unwrap();
         assert_eq!(read.matrix, [number, 9_999_999_999], "{written}");
     }
-    let long = ["10000000000", "12345678901", "-10000000000", "00000000001"];
-    let short = [
-        "", "-", "--1", "-0", "00", "01", "-01", "-00", "+1", " 1", "1 ", "1\t", "1\r", "1\0",
-        "1-", "1.0", "1e3", "0x1", "1_000", "a", "/",
-    ];
-    for written in short.into_iter().chain(long) {
+    for written in FAULTY_LOWER_ENDS {
         assert_eq!(fault(with_lower(written).as_bytes()), Some(2), "{written}");
     }
 }
 
 #[test]
 fn a_line_holds_exactly_n_values() {
-    let faulty = [
-        "\n",
-        "0:0\n",
-        "0:0;\n",
-        ";0:0\n",
-        "0:0;0:0;\n",
-        ";0:0;0:0\n",
-        "0:0;;0:0\n",
-        "0:0;0:0;0:0\n",
-        "0:0,0:0\n",
-        "0:0;0\n",
-        "0:0;0:\n",
-        "0:0;:0\n",
-        "0:0;:\n",
-        "0:0;0:0:0\n",
-        "0:0;0::0\n",
-        "0:0;0:0 \n",
-        "0:0;0:0\r\n",
-        "0:0 ;0:0\n",
-        "0:0; 0:0\n",
-    ];
-    for line in faulty {
+    for line in FAULTY_LINES {
         for number in [2, 3, 4] {
             let text = with_line(number, line);
             assert_eq!(fault(text.as_bytes()), Some(number as u64), "{line:?}");

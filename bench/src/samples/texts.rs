@@ -16,6 +16,78 @@ V1;V2
 settled 1
 ";
 
+/// The input line by line.
+pub const LINES: [&str; 4] = [
+    "V1;V2\n",
+    "0:0;0:500000\n",
+    "500000:500000;0:0\n",
+    "3000000:3000000;0:0\n",
+];
+
+/// The input with another line of that number.
+pub fn with_line(number: usize, line: &str) -> String {
+    let mut lines = LINES;
+    lines[number - 1] = line;
+    lines.concat()
+}
+
+/// One vat whose share has this lower end.
+pub fn with_lower(lower: &str) -> String {
+    format!("a\n{lower}:9999999999\n0:0\n")
+}
+
+/// Lower ends that are not as described.
+pub const FAULTY_LOWER_ENDS: [&str; 25] = [
+    "",
+    "-",
+    "--1",
+    "-0",
+    "00",
+    "01",
+    "-01",
+    "-00",
+    "+1",
+    " 1",
+    "1 ",
+    "1\t",
+    "1\r",
+    "1\0",
+    "1-",
+    "1.0",
+    "1e3",
+    "0x1",
+    "1_000",
+    "a",
+    "/",
+    "10000000000",
+    "12345678901",
+    "-10000000000",
+    "00000000001",
+];
+
+/// Lines that do not hold two values as described.
+pub const FAULTY_LINES: [&str; 19] = [
+    "\n",
+    "0:0\n",
+    "0:0;\n",
+    ";0:0\n",
+    "0:0;0:0;\n",
+    ";0:0;0:0\n",
+    "0:0;;0:0\n",
+    "0:0;0:0;0:0\n",
+    "0:0,0:0\n",
+    "0:0;0\n",
+    "0:0;0:\n",
+    "0:0;:0\n",
+    "0:0;:\n",
+    "0:0;0:0:0\n",
+    "0:0;0::0\n",
+    "0:0;0:0 \n",
+    "0:0;0:0\r\n",
+    "0:0 ;0:0\n",
+    "0:0; 0:0\n",
+];
+
 /// True if `report` writes the output for the input.
 pub fn is_met(report: impl Fn(&mut [u8], &mut [u8]) -> Outcome) -> bool {
     let given = TextCase::new(INPUT.to_vec()).answer(report);

@@ -2,14 +2,9 @@
 
 use crate::notes::{Notes, MATRIX_LENGTH, RIGHT_LENGTH};
 use kifwaleb_bench::reference::{MOST_BYTES, SHEET_LENGTH};
-use kifwaleb_bench::samples::texts::INPUT;
-
-const LINES: [&str; 4] = [
-    "V1;V2\n",
-    "0:0;0:500000\n",
-    "500000:500000;0:0\n",
-    "3000000:3000000;0:0\n",
-];
+use kifwaleb_bench::samples::texts::{
+    with_line, with_lower, FAULTY_LINES, FAULTY_LOWER_ENDS, INPUT, LINES,
+};
 
 pub fn note(notes: &mut Notes) {
     sample(notes);
@@ -23,18 +18,6 @@ pub fn note(notes: &mut Notes) {
     names(notes);
     sheets(notes);
     largest(notes);
-}
-
-/// The sample with one line instead of another.
-fn with_line(number: usize, line: &str) -> Vec<u8> {
-    let mut lines = LINES;
-    lines[number - 1] = line;
-    lines.concat().into_bytes()
-}
-
-/// One vat whose share has this lower end.
-fn with_lower(written: &str) -> Vec<u8> {
-    format!("a\n{written}:9999999999\n0:0\n").into_bytes()
 }
 
 fn sample(notes: &mut Notes) {
@@ -56,61 +39,25 @@ fn spellings(notes: &mut Notes) {
         "9999999999",
         "-9999999999",
     ] {
-        let mut calls = notes.text(&with_lower(written));
+        let mut calls = notes.text(with_lower(written).as_bytes());
         calls.read_whole((0, 0)).report("refused 3 0");
     }
     notes.remark("numbers not as described");
-    for written in [
-        "",
-        "-",
-        "--1",
-        "-0",
-        "00",
-        "01",
-        "-01",
-        "+1",
-        " 1",
-        "1 ",
-        "1\t",
-        "1\r",
-        "1\0",
-        "1-",
-        "1.0",
-        "a",
-        "/",
-        "10000000000",
-        "-10000000000",
-        "00000000001",
-    ] {
-        notes.text(&with_lower(written)).read_whole((8, 2));
+    for written in FAULTY_LOWER_ENDS {
+        notes
+            .text(with_lower(written).as_bytes())
+            .read_whole((8, 2));
     }
 }
 
 fn lines_of_values(notes: &mut Notes) {
     for number in 2..=4 {
         notes.remark(&format!("line {number} is faulty"));
-        for line in [
-            "\n",
-            "0:0\n",
-            "0:0;\n",
-            ";0:0\n",
-            "0:0;0:0;\n",
-            ";0:0;0:0\n",
-            "0:0;;0:0\n",
-            "0:0;0:0;0:0\n",
-            "0:0,0:0\n",
-            "0:0;0\n",
-            "0:0;0:\n",
-            "0:0;:0\n",
-            "0:0;0:0:0\n",
-            "0:0;0:0 \n",
-            "0:0;0:0\r\n",
-            "0:0; 0:0\n",
-        ] {
-            let mut calls = notes.text(&with_line(number, line));
+        for line in FAULTY_LINES {
+            let mut calls = notes.text(with_line(number, line).as_bytes());
             calls.read_whole((8, number as u64));
         }
-        let mut calls = notes.text(&with_line(number, "x\n"));
+        let mut calls = notes.text(with_line(number, "x\n").as_bytes());
         calls.report(&format!("refused 8 {number}")).name(2, "V2");
     }
 }
@@ -132,8 +79,12 @@ fn lines_of_names(notes: &mut Notes) {
         let mut calls = notes.text(format!("{name}\n0:0\n5:5\n").as_bytes());
         calls.read_whole((0, 0)).name(1, name);
     }
-    notes.text(&with_line(1, "a;A\n")).read_whole((0, 0));
-    notes.text(&with_line(1, "a;a-\n")).read_whole((0, 0));
+    notes
+        .text(with_line(1, "a;A\n").as_bytes())
+        .read_whole((0, 0));
+    notes
+        .text(with_line(1, "a;a-\n").as_bytes())
+        .read_whole((0, 0));
     notes.remark("names not as described");
     for name in [
         "",
@@ -166,7 +117,7 @@ fn lines_of_names(notes: &mut Notes) {
         "V1,V2\n",
         "V1;V2;V1\n",
     ] {
-        let mut calls = notes.text(&with_line(1, line));
+        let mut calls = notes.text(with_line(1, line).as_bytes());
         calls.read_whole((8, 1)).report("refused 8 1").name(1, "");
     }
 }
@@ -213,7 +164,7 @@ fn first_faulty_line(notes: &mut Notes) {
     }
     notes.remark("a faulty line comes before crossed ends on an earlier one");
     let crossed = "1:0;9999999999:0\n";
-    let mut calls = notes.text(&with_line(2, crossed));
+    let mut calls = notes.text(with_line(2, crossed).as_bytes());
     calls.read_whole((0, 0)).report("refused 3 0");
     let text = LINES[0].to_string() + crossed + LINES[2] + LINES[3] + "\n";
     let mut calls = notes.text(text.as_bytes());
