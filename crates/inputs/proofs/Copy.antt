@@ -24,6 +24,10 @@ out-more x s from j h e f k =
 pub out-end : (x s : List ℤ) (j : ℕ) {y : List ℤ} → y ≡ paste x 0 s j → j ≡ length x → y ≡ take (length x) s
 out-end x s j e f = e ∙ rw (f, zero-add (length x), drop-of-length-le x (le-refl (length x))) (append-nil (take (length x) s))
 
+-- a list pasted to the front, of whatever kind, stands before what was there past it
+pub fronted : {A : Type 0} (z a : List A) → paste z 0 a (length a) ≡ a ++ drop (length a) z
+fronted z a = λ i. take-length a i ++ drop (zero-add (length a) i) z
+
 -- two lists pasted one after the other
 pub pasted-both : (z a f t₁ t₂ : List ℤ) → t₁ ≡ paste z 0 a (length a) → t₂ ≡ paste t₁ (length a) f (length f) → t₂ ≡ a ++ (f ++ drop (length a + length f) z)
 pasted-both z a f t₁ t₂ e g =

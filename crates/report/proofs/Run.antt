@@ -1,17 +1,17 @@
 -- The sheet, by what the calls returned.
 use mathlib.Core.Path.{_≡_, refl, sym, ap, ap₂, _∙_}
-use mathlib.Core.List.{List, _∷_, _++_}
+use mathlib.Core.List.{List, _∷_}
 use Prim.Native.Nat.{ℕ, zero, suc, _+_, _-_, _*_, _≤_}
 use native.Mathlib.Omega.{arith}
-use native.Mathlib.Nat.{zero-add}
 use borrow.Author.Tests.{eq-eqb, ne-eqb}
 use lib.IntN.{ℤ, pos}
 use lib.ListN.{length, take, drop, replicate}
-use lib.Seq.{length-take-le, take-length}
+use lib.Seq.{length-take-le}
 use Rattle.io.specs.Counts.{Counts}
 use Rattle.outcome.specs.declared.Outcome.the-variants as outcome
 use Rattle.outcome.specs.Table.{Row, paper}
 use Rattle.inputs.specs.Tests.{System, system}
+use Rattle.inputs.proofs.Copy.{fronted}
 use Rattle.elimination.specs.Call as elimination
 use Rattle.sweep.specs.Call as sweep
 use Rattle.sweep.specs.Calls.{sweepCall, answer}
@@ -105,11 +105,6 @@ module _ (text : List ℕ) (t : List ℤ) {r : code.Reading} (e : readingIs text
   unfolding sheet
   sheet-solved f = ap sheetOf (ap (λ q. readingIs text q t) (sym f) ∙ e)
 
--- what is put at the beginning stands before what was lent
-fronted : (out s : List ℕ) → written out 0 s ≡ s ++ drop (length s) out
-unfolding written
-fronted out s = λ i. take-length s i ++ drop (zero-add (length s) i) out
-
 -- ---- the call, by the length of out
 module _ (text out : List ℕ) where
   abbrev Answers : Row → ℕ → List ℕ → Type 0
@@ -120,5 +115,5 @@ module _ (text out : List ℕ) where
   report-refused h = rw (ne-eqb (length out) 2048 h) (refl, (refl, (refl, (omega arith, refl))))
 
   pub report-written : {after : List ℕ} {k : ℕ} → length out ≡ 2048 → Sheet out (sheet text) after k → Answers (paper outcome.Done) k after
-  unfolding outcomeOf countOf outAfter
+  unfolding outcomeOf countOf outAfter written
   report-written {after} {k} h w = rw (eq-eqb (length out) 2048 h) (refl, (w .whole, (w .bytes ∙ fronted out (sheet text), (w .inside, sym (length-take-le k after (w .inside))))))

@@ -1,27 +1,23 @@
 -- What is handed out of the numbers of a text, by the lengths of the lent slices.
 use mathlib.Core.Path.{_≡_, refl, sym, ap, subst, _∙_}
-use mathlib.Core.List.{List, _++_}
+use mathlib.Core.List.{List}
 use Prim.Native.Nat.{ℕ, _+_, _-_, _*_}
 use native.Mathlib.Omega.{arith}
-use native.Mathlib.Nat.{zero-add}
 use borrow.Author.Tests.{eq-eqb, ne-eqb}
 use lib.IntN.{ℤ}
 use lib.ListN.{length, take, drop}
-use lib.Seq.{paste, take-length}
+use lib.Seq.{paste}
 use Rattle.outcome.specs.declared.Outcome.{Outcome}
 use Rattle.outcome.specs.declared.Outcome.the-variants as outcome
 use Rattle.outcome.specs.Table.{paper}
 use Rattle.inputs.specs.Tests.{both, need, lengths}
+use Rattle.inputs.proofs.Copy.{fronted}
 use Rattle.text.specs.declared.internal.lines.Heading.{Heading}
 use Rattle.text.specs.declared.internal.lines.Reading as code
 use Rattle.text.specs.declared.internal.lines.Reading.the-variants as whole
 use Rattle.text.specs.Text.{reading}
-use Rattle.text.specs.Call.{Answer, answerTo, answer, outcomeOf, sizeOf, over, matrixAfter, rightAfter}
+use Rattle.text.specs.Call.{Answer, answerTo, answer, outcomeOf, sizeOf, matrixAfter, rightAfter}
 use Rattle.text.specs.Code.{readingIs, handed}
-
--- a copy to the front stands over what was lent
-fronted : (lent zs : List ℤ) → paste lent 0 zs (length zs) ≡ over zs lent
-fronted lent zs = λ i. take-length zs i ++ drop (zero-add (length zs) i) lent
 
 -- what is returned, and the lent slices as they are left
 abbrev pub Leaves : Answer → (matrix right : List ℤ) → Outcome → ℕ → (m r : List ℤ) → Type 0
