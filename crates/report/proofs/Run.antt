@@ -19,10 +19,10 @@ use Rattle.text.specs.declared.internal.lines.Heading.{Heading}
 use Rattle.text.specs.declared.internal.lines.Reading as code
 use Rattle.text.specs.declared.internal.lines.Reading.the-variants as whole
 use Rattle.text.specs.Text.{reading}
-use Rattle.text.specs.Code.{readingIs}
+use Rattle.text.specs.Code.{systemOf, readingIs}
 use Rattle.report.specs.Sheet.{settled, spent, calculated, refusal}
 use Rattle.report.specs.Call.{concluded, tightened, eliminated, solvedIn, solved, sheetOf, sheet, outcomeOf, countOf, outAfter}
-use Rattle.report.specs.Code.{written, Sheet, systemOf}
+use Rattle.report.specs.Code.{written, Sheet}
 
 -- what a function put, as the sheet that it is
 pub sheet-is : {before s t after : List ℕ} {r : ℕ} → s ≡ t → (r ≡ length s) × ((after ≡ written before 0 s) × (r ≤ length after)) → Sheet before t after r

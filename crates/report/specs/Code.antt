@@ -1,11 +1,9 @@
 -- What the functions that print promise each other.
 use mathlib.Core.Path.{_≡_}
 use mathlib.Core.List.{List}
-use Prim.Native.Nat.{ℕ, _+_, _*_, _≤_}
-use lib.IntN.{ℤ}
-use lib.ListN.{length, take, drop}
+use Prim.Native.Nat.{ℕ, _+_, _≤_}
+use lib.ListN.{length}
 use lib.Seq.{paste}
-use Rattle.inputs.specs.Tests.{System, system}
 
 -- out with the bytes s from place `at` on
 unfoldable pub written : List ℕ → (at : ℕ) → List ℕ → List ℕ
@@ -22,7 +20,3 @@ pub record Sheet (before s after : List ℕ) (count : ℕ) : Type 0 where
   pub whole : count ≡ length s
   pub bytes : after ≡ written before 0 s
   pub inside : count ≤ length after
-
--- the balance of which the numbers stand at the beginning of t
-abbrev pub systemOf : (n : ℕ) → List ℤ → System
-systemOf n t = system n (take (2 * (n * n)) t) (take (2 * n) (drop (2 * (n * n)) t))

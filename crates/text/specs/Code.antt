@@ -5,7 +5,7 @@ use mathlib.Core.List.{List, [], _∷_}
 use Prim.Native.Nat.{ℕ, _+_, _*_, _≤_, _<_}
 use lib.IntN.{ℤ}
 use lib.ListN.{length, take, drop}
-use Rattle.inputs.specs.Tests.{system}
+use Rattle.inputs.specs.Tests.{System, system}
 use Rattle.text.specs.declared.internal.search.Found.{Found}
 use Rattle.text.specs.declared.internal.search.Found.the-variants.{At, Nothing}
 use Rattle.text.specs.declared.internal.names.Names.{Names}
@@ -72,11 +72,12 @@ abbrev pub Heads : List ℕ → Head → Type 0
 Heads s (heading.Named h) = Headed s h
 Heads s (heading.Faulty k) = text.headOf s ≡ text.wrong k
 
--- ---- the whole text: its numbers stand at the beginning of t
+-- ---- the whole text: the balance of which the numbers stand at the beginning of t
+abbrev pub systemOf : (n : ℕ) → List ℤ → System
+systemOf n t = system n (take (2 * (n * n)) t) (take (2 * n) (drop (2 * (n * n)) t))
+
 abbrev pub readingIs : List ℕ → Reading → List ℤ → text.Reading
-readingIs s (whole.Balance h) t =
-    text.balance (take (h .stop) s)
-    (system (h .count) (take (2 * (h .count * h .count)) t) (take (2 * h .count) (drop (2 * (h .count * h .count)) t)))
+readingIs s (whole.Balance h) t = text.balance (take (h .stop) s) (systemOf (h .count) t)
 readingIs s (whole.Faulty k) t = text.fault k
 
 abbrev pub Fits : List ℕ → Reading → Type 0
@@ -84,4 +85,4 @@ Fits s (whole.Balance h) = Headed s h
 Fits s (whole.Faulty k) = Unit
 
 unfoldable pub handed : (n : ℕ) → List ℤ → (matrix right : ℕ) → Answer
-handed n t m r = answerTo (text.balance [] (system n (take (2 * (n * n)) t) (take (2 * n) (drop (2 * (n * n)) t)))) m r
+handed n t m r = answerTo (text.balance [] (systemOf n t)) m r

@@ -9,8 +9,9 @@ ghost use mathlib.Core.Path.{_≡_};
 ghost use Prim.Native.Nat.{_*_, _≤_};
 ghost use lib.ListN.{length};
 ghost use Rattle.inputs.specs.Tests.{system};
+ghost use Rattle.text.specs.Code.{systemOf};
 ghost use Rattle.report.specs.Call.{sheet, solved, solvedIn, tightened};
-ghost use Rattle.report.specs.Code.{Sheet, systemOf};
+ghost use Rattle.report.specs.Code.{Sheet};
 
 // Sweeps the box of the elimination, and puts the sheet.
 fn put_swept(
