@@ -21,7 +21,7 @@ use Rattle.text.specs.declared.internal.lines.Reading.the-variants as whole
 use Rattle.text.specs.Text.{reading}
 use Rattle.text.specs.Code.{systemOf, readingIs}
 use Rattle.report.specs.Sheet.{settled, spent, calculated, refusal}
-use Rattle.report.specs.Call.{concluded, tightened, eliminated, solvedIn, solved, sheetOf, sheet, outcomeOf, countOf, outAfter}
+use Rattle.report.specs.Call.{Calculation, stopped, reached, concluded, tightened, eliminated, solvedIn, solved, printed, sheetOf, sheet, outcomeOf, countOf, outAfter}
 use Rattle.report.specs.Code.{written, Sheet}
 
 -- what a function put, as the sheet that it is
@@ -33,16 +33,16 @@ pub sheet-too : {before s t after : List ℕ} {r : ℕ} → s ≡ t → Sheet be
 sheet-too e p = sheet-is e (p .whole, (p .bytes, p .inside))
 
 -- ---- by the number that the sweeps returned
-module _ (names : List ℕ) (n : ℕ) (r : Row) (count : ℕ) (x : List ℤ) where
-  concluded-settled : r .number ≡ 0 → calculated names n x settled count ≡ concluded names n r count x
+module _ (r : Row) (count : ℕ) (x : List ℤ) where
+  concluded-settled : r .number ≡ 0 → reached x settled count ≡ concluded r count x
   unfolding concluded
   concluded-settled e = rw (eq-eqb (r .number) 0 e)
 
-  concluded-spent : (r .number ≡ 0 → ⊥) → r .number ≡ 9 → calculated names n x spent count ≡ concluded names n r count x
+  concluded-spent : (r .number ≡ 0 → ⊥) → r .number ≡ 9 → reached x spent count ≡ concluded r count x
   unfolding concluded
   concluded-spent h e = rw (ne-eqb (r .number) 0 h, eq-eqb (r .number) 9 e)
 
-  concluded-refused : (r .number ≡ 0 → ⊥) → (r .number ≡ 9 → ⊥) → refusal r ≡ concluded names n r count x
+  concluded-refused : (r .number ≡ 0 → ⊥) → (r .number ≡ 9 → ⊥) → stopped r ≡ concluded r count x
   unfolding concluded
   concluded-refused h k = rw (ne-eqb (r .number) 0 h, ne-eqb (r .number) 9 k)
 
@@ -50,18 +50,18 @@ module _ (names : List ℕ) (s : System) (x : List ℤ) (r : Row) (count : ℕ) 
     (e : r ≡ paper (sweep.outcomeOf (answer s (sweepCall 100) x)))
     (f : count ≡ sweep.countOf (answer s (sweepCall 100) x))
     (g : y ≡ sweep.boxAfter (answer s (sweepCall 100) x) x) where
-  by-sweeps : concluded names (s .size) r count y ≡ tightened names s x
+  by-sweeps : {c : Calculation} → c ≡ concluded r count y → printed names (s .size) c ≡ printed names (s .size) (tightened s x)
   unfolding tightened
-  by-sweeps = λ i. concluded names (s .size) (e i) (f i) (g i)
+  by-sweeps q = ap (printed names (s .size)) (q ∙ (λ i. concluded (e i) (f i) (g i)))
 
-  pub tightened-settled : r .number ≡ 0 → calculated names (s .size) y settled count ≡ tightened names s x
-  tightened-settled h = concluded-settled names (s .size) r count y h ∙ by-sweeps
+  pub tightened-settled : r .number ≡ 0 → calculated names (s .size) y settled count ≡ printed names (s .size) (tightened s x)
+  tightened-settled h = by-sweeps (concluded-settled r count y h)
 
-  pub tightened-spent : (r .number ≡ 0 → ⊥) → r .number ≡ 9 → calculated names (s .size) y spent count ≡ tightened names s x
-  tightened-spent h k = concluded-spent names (s .size) r count y h k ∙ by-sweeps
+  pub tightened-spent : (r .number ≡ 0 → ⊥) → r .number ≡ 9 → calculated names (s .size) y spent count ≡ printed names (s .size) (tightened s x)
+  tightened-spent h k = by-sweeps (concluded-spent r count y h k)
 
-  pub tightened-refused : (r .number ≡ 0 → ⊥) → (r .number ≡ 9 → ⊥) → refusal r ≡ tightened names s x
-  tightened-refused h k = concluded-refused names (s .size) r count y h k ∙ by-sweeps
+  pub tightened-refused : (r .number ≡ 0 → ⊥) → (r .number ≡ 9 → ⊥) → refusal r ≡ printed names (s .size) (tightened s x)
+  tightened-refused h k = by-sweeps (concluded-refused r count y h k)
 
 -- ---- by the number that the elimination returned
 module _ (names : List ℕ) (s : System) (lent : List ℤ) (r : Row) (l : length lent ≡ 2 * s .size)
@@ -70,17 +70,18 @@ module _ (names : List ℕ) (s : System) (lent : List ℤ) (r : Row) (l : length
   unfolding eliminated
   returned = e ∙ ap (λ k. paper (elimination.outcomeOf (elimination.overB s k))) l
 
-  pub solved-refused : (r .number ≡ 0 → ⊥) → refusal r ≡ solvedIn names s lent
+  pub solved-refused : (r .number ≡ 0 → ⊥) → refusal r ≡ printed names (s .size) (solvedIn s lent)
   unfolding solvedIn
   solved-refused h =
       let k : paper (elimination.outcomeOf (eliminated s)) .number ≡ 0 → ⊥ = λ z. h (ap (λ q. q .number) returned ∙ z) in
       ap refusal returned ∙ rw (ne-eqb (paper (elimination.outcomeOf (eliminated s)) .number) 0 k)
 
-  pub solved-accepted : (x : List ℤ) → x ≡ elimination.boxAfter (elimination.overB s (length lent)) lent → r .number ≡ 0 → tightened names s x ≡ solvedIn names s lent
+  pub solved-accepted : (x : List ℤ) → x ≡ elimination.boxAfter (elimination.overB s (length lent)) lent → r .number ≡ 0
+      → printed names (s .size) (tightened s x) ≡ printed names (s .size) (solvedIn s lent)
   unfolding solvedIn eliminated
   solved-accepted x q h =
       let z : paper (elimination.outcomeOf (eliminated s)) .number ≡ 0 = ap (λ m. m .number) (sym returned) ∙ h in
-      ap (tightened names s) (q ∙ ap (λ k. elimination.boxAfter (elimination.overB s k) lent) l) ∙ rw (eq-eqb (paper (elimination.outcomeOf (eliminated s)) .number) 0 z)
+      ap (λ y. printed names (s .size) (tightened s y)) (q ∙ ap (λ k. elimination.boxAfter (elimination.overB s k) lent) l) ∙ rw (eq-eqb (paper (elimination.outcomeOf (eliminated s)) .number) 0 z)
 
 -- ---- the lent noughts
 take-replicate : (k m : ℕ) → k ≤ m → take k (replicate m (pos 0)) ≡ replicate k (pos 0)
@@ -89,11 +90,11 @@ take-replicate (suc k) zero h = absurd (omega arith)
 take-replicate (suc k) (suc m) h = ap (λ l. pos 0 ∷ l) (take-replicate k m (omega arith))
 
 pub solved-parts : (names : List ℕ) (n : ℕ) (t : List ℤ) → n ≤ 32
-    → solvedIn names (system n (take (2 * (n * n)) t) (take (2 * (n * n) + 2 * n - 2 * (n * n)) (drop (2 * (n * n)) t))) (take (2 * n) (replicate 64 (pos 0))) ≡ solved names (systemOf n t)
+    → printed names n (solvedIn (system n (take (2 * (n * n)) t) (take (2 * (n * n) + 2 * n - 2 * (n * n)) (drop (2 * (n * n)) t))) (take (2 * n) (replicate 64 (pos 0)))) ≡ printed names n (solved (systemOf n t))
 unfolding solved
 solved-parts names n t h =
     let d : 2 * (n * n) + 2 * n - 2 * (n * n) ≡ 2 * n = omega arith in
-    ap₂ (λ k x. solvedIn names (system n (take (2 * (n * n)) t) (take k (drop (2 * (n * n)) t))) x) d (take-replicate (2 * n) 64 (omega arith))
+    ap₂ (λ k x. printed names n (solvedIn (system n (take (2 * (n * n)) t) (take k (drop (2 * (n * n)) t))) x)) d (take-replicate (2 * n) 64 (omega arith))
 
 -- ---- by what the text was read as
 module _ (text : List ℕ) (t : List ℤ) {r : code.Reading} (e : readingIs text r t ≡ reading text) where
@@ -101,7 +102,7 @@ module _ (text : List ℕ) (t : List ℤ) {r : code.Reading} (e : readingIs text
   unfolding sheet
   sheet-refused f = ap sheetOf (ap (λ q. readingIs text q t) (sym f) ∙ e)
 
-  pub sheet-solved : {h : Heading} → r ≡ whole.Balance h → solved (take (h .stop) text) (systemOf (h .count) t) ≡ sheet text
+  pub sheet-solved : {h : Heading} → r ≡ whole.Balance h → printed (take (h .stop) text) (h .count) (solved (systemOf (h .count) t)) ≡ sheet text
   unfolding sheet
   sheet-solved f = ap sheetOf (ap (λ q. readingIs text q t) (sym f) ∙ e)
 

@@ -16,16 +16,19 @@ use Rattle.sweep.specs.Calls.{sweepCall, answer}
 use Rattle.text.specs.Text.{Reading, fault, balance, reading}
 use Rattle.report.specs.Sheet.{settled, spent, calculated, refusal}
 
+-- what the calculation of a balance comes to: a refusal, or the box that it reached, 'settled' or 'spent', and the count
+pub data Calculation : Type 0 where
+  stopped : Row → Calculation
+  reached : (box : List ℤ) → (word : List ℕ) → (count : ℕ) → Calculation
+
 -- by what the sweep call returned: 0 settled, 9 spent, any other number a refusal
-unfoldable pub concluded : (names : List ℕ) → (n : ℕ) → Row → (count : ℕ) → (box : List ℤ) → List ℕ
-concluded names n r count x =
-    cond (eqb (r .number) 0) (calculated names n x settled count) (cond (eqb (r .number) 9) (calculated names n x spent count) (refusal r))
+unfoldable pub concluded : Row → (count : ℕ) → (box : List ℤ) → Calculation
+concluded r count x = cond (eqb (r .number) 0) (reached x settled count) (cond (eqb (r .number) 9) (reached x spent count) (stopped r))
 
 -- 'sweeps with 100 allowed', from the box of the elimination
-unfoldable pub tightened : (names : List ℕ) → System → (box : List ℤ) → List ℕ
-tightened names s x =
-    concluded names (s .size)
-    (paper (sweep.outcomeOf (answer s (sweepCall 100) x)))
+unfoldable pub tightened : System → (box : List ℤ) → Calculation
+tightened s x =
+    concluded (paper (sweep.outcomeOf (answer s (sweepCall 100) x)))
     (sweep.countOf (answer s (sweepCall 100) x))
     (sweep.boxAfter (answer s (sweepCall 100) x) x)
 
@@ -33,19 +36,23 @@ tightened names s x =
 unfoldable pub eliminated : System → Run
 eliminated s = elimination.overB s (2 * s .size)
 
-unfoldable pub solvedIn : (names : List ℕ) → System → (lent : List ℤ) → List ℕ
-solvedIn names s lent =
+unfoldable pub solvedIn : System → (lent : List ℤ) → Calculation
+solvedIn s lent =
     cond (eqb (paper (elimination.outcomeOf (eliminated s)) .number) 0)
-    (tightened names s (elimination.boxAfter (eliminated s) lent))
-    (refusal (paper (elimination.outcomeOf (eliminated s))))
+    (tightened s (elimination.boxAfter (eliminated s) lent))
+    (stopped (paper (elimination.outcomeOf (eliminated s))))
 
 -- the lent box holds noughts; the call does not read them
-unfoldable pub solved : (names : List ℕ) → System → List ℕ
-solved names s = solvedIn names s (replicate (2 * s .size) (pos 0))
+unfoldable pub solved : System → Calculation
+solved s = solvedIn s (replicate (2 * s .size) (pos 0))
+
+abbrev pub printed : (names : List ℕ) → (n : ℕ) → Calculation → List ℕ
+printed names n (stopped r) = refusal r
+printed names n (reached x word count) = calculated names n x word count
 
 abbrev pub sheetOf : Reading → List ℕ
 sheetOf (fault k) = refusal (paper (outcome.Text k))
-sheetOf (balance names s) = solved names s
+sheetOf (balance names s) = printed names (s .size) (solved s)
 
 -- the bytes that 'balance' prints for a text
 unfoldable pub sheet : List ℕ → List ℕ

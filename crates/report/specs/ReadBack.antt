@@ -4,14 +4,15 @@ use mathlib.Core.List.{List}
 use Prim.Native.Nat.{ℕ, _*_, _≤_, _<_}
 use lib.IntN.{ℤ, natAbs}
 use lib.ListN.{length}
-use Rattle.outcome.specs.Table.{Row}
 use Rattle.inputs.specs.Place.{at}
+use Rattle.inputs.specs.Tests.{System}
 use Rattle.text.specs.declared.internal.number.Number.the-variants.{Units}
-use Rattle.text.specs.Parts.{parts}
+use Rattle.text.specs.Parts.{parts, part}
 use Rattle.text.specs.Number.{number, read, values}
+use Rattle.text.specs.Text.{balance, reading}
 use Rattle.report.specs.Decimal.{decimal}
-use Rattle.report.specs.Sheet.{bounds, calculated, refusal}
-use Rattle.report.specs.Call.{sheet}
+use Rattle.report.specs.Sheet.{bounds}
+use Rattle.report.specs.Call.{reached, solved, sheet}
 
 -- '1 to 10 digits' hold it, as they do every number in the range
 abbrev pub Short : ℤ → Type 0
@@ -26,11 +27,8 @@ abbrev pub LineBack : Type 0
 LineBack =
     (n : ℕ) (x : List ℤ) → 1 ≤ n → length x ≡ 2 * n → ((p : ℕ) → p < n → Short (at x p .lo) × Short (at x p .hi)) → values n (parts 59 (bounds n 0 x)) ≡ read x
 
--- a refusal, or a sheet whose bounds read back as the box that they were printed from
-pub data ReadsBack : List ℕ → Type 0 where
-  refusing : (r : Row) → ReadsBack (refusal r)
-  bounding : (names : List ℕ) (n : ℕ) (x : List ℤ) (word : List ℕ) (count : ℕ) → values n (parts 59 (bounds n 0 x)) ≡ read x → ReadsBack (calculated names n x word count)
-
--- whatever the text, so is what the program prints: no end of its bounds is too long for a value
+-- whatever the text, if its calculation reaches a box: line 2 of what the program prints reads back as that very box
 abbrev pub SheetBack : Type 0
-SheetBack = (text : List ℕ) → ReadsBack (sheet text)
+SheetBack =
+    (text names : List ℕ) (s : System) (x : List ℤ) (word : List ℕ) (count : ℕ) → reading text ≡ balance names s → solved s ≡ reached x word count
+    → values (s .size) (parts 59 (part (parts 10 (sheet text)) 1)) ≡ read x

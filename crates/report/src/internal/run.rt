@@ -10,7 +10,7 @@ ghost use Prim.Native.Nat.{_*_, _≤_};
 ghost use lib.ListN.{length};
 ghost use Rattle.inputs.specs.Tests.{system};
 ghost use Rattle.text.specs.Code.{systemOf};
-ghost use Rattle.report.specs.Call.{sheet, solved, solvedIn, tightened};
+ghost use Rattle.report.specs.Call.{tightened, solvedIn, solved, printed, sheet};
 ghost use Rattle.report.specs.Code.{Sheet};
 
 // Sweeps the box of the elimination, and puts the sheet.
@@ -24,7 +24,7 @@ fn put_swept(
 ) -> usize
     requires { ⌜ (length (now out) ≡ 2048) × (length (now names) ≤ 543) ⌝ }
     requires { ⌜ (1 ≤ n) × (n ≤ 32) × (2 * n ≤ length (now bounds)) ⌝ }
-    ensures { λ r. ⌜ Sheet (now (out .entry)) (tightened (now (names .entry)) (system n (now (matrix .entry)) (now (right .entry))) (now (bounds .entry))) (now (out .exit)) r ⌝ }
+    ensures { λ r. ⌜ Sheet (now (out .entry)) (printed (now (names .entry)) n (tightened (system n (now (matrix .entry)) (now (right .entry))) (now (bounds .entry)))) (now (out .exit)) r ⌝ }
 {
     let s = sweep(n, matrix, right, bounds, 100);
     let o = s.outcome;
@@ -50,7 +50,7 @@ fn put_eliminated(
 ) -> usize
     requires { ⌜ (length (now out) ≡ 2048) × (length (now names) ≤ 543) ⌝ }
     requires { ⌜ (1 ≤ n) × (n ≤ 32) × (length (now bounds) ≡ 2 * n) ⌝ }
-    ensures { λ r. ⌜ Sheet (now (out .entry)) (solvedIn (now (names .entry)) (system n (now (matrix .entry)) (now (right .entry))) (now (bounds .entry))) (now (out .exit)) r ⌝ }
+    ensures { λ r. ⌜ Sheet (now (out .entry)) (printed (now (names .entry)) n (solvedIn (system n (now (matrix .entry)) (now (right .entry))) (now (bounds .entry)))) (now (out .exit)) r ⌝ }
 {
     let o = eliminate_balance(n, matrix, right, bounds);
     if o.number() == 0 {
@@ -63,7 +63,7 @@ fn put_eliminated(
 fn put_solved(out: &mut [u8], names: &[u8], n: usize, t: &[i64]) -> usize
     requires { ⌜ (length (now out) ≡ 2048) × (length (now names) ≤ 543) ⌝ }
     requires { ⌜ (1 ≤ n) × (n ≤ 32) × (length (now t) ≡ 2112) ⌝ }
-    ensures { λ r. ⌜ Sheet (now (out .entry)) (solved (now (names .entry)) (systemOf n (now (t .entry)))) (now (out .exit)) r ⌝ }
+    ensures { λ r. ⌜ Sheet (now (out .entry)) (printed (now (names .entry)) n (solved (systemOf n (now (t .entry))))) (now (out .exit)) r ⌝ }
 {
     let square = 2 * (n * n);
     let end = square + 2 * n;
