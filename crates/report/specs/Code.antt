@@ -1,9 +1,11 @@
 -- What the functions that print promise each other.
 use mathlib.Core.Path.{_≡_}
+use mathlib.Core.Bool.{Bool, cond}
 use mathlib.Core.List.{List}
 use Prim.Native.Nat.{ℕ, _+_, _≤_}
 use lib.ListN.{length}
 use lib.Seq.{paste}
+use Rattle.report.specs.Sheet.{settled, spent}
 
 -- out with the bytes s from place `at` on
 unfoldable pub written : List ℕ → (at : ℕ) → List ℕ → List ℕ
@@ -20,3 +22,7 @@ pub record Sheet (before s after : List ℕ) (count : ℕ) : Type 0 where
   pub whole : count ≡ length s
   pub bytes : after ≡ written before 0 s
   pub inside : count ≤ length after
+
+-- the word that a flag of the code stands for
+abbrev pub ending : Bool → List ℕ
+ending isSettled = cond isSettled settled spent

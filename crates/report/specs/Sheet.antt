@@ -1,5 +1,4 @@
 -- Document 01, The cellar text: what the program 'balance' prints. 'Every printed line ends with byte 10.'
-use mathlib.Core.Bool.{Bool, cond}
 use mathlib.Core.List.{List, [], _∷_, _++_}
 use Prim.Native.Nat.{ℕ, zero, suc, _+_}
 use lib.IntN.{ℤ}
@@ -28,9 +27,6 @@ settled = 115 ∷ 101 ∷ 116 ∷ 116 ∷ 108 ∷ 101 ∷ 100 ∷ []
 
 unfoldable pub spent : List ℕ
 spent = 115 ∷ 112 ∷ 101 ∷ 110 ∷ 116 ∷ []
-
-abbrev pub ending : Bool → List ℕ
-ending isSettled = cond isSettled settled spent
 
 -- 'then 'settled' or 'spent', a blank and the count'
 unfoldable pub counted : (word : List ℕ) → (count : ℕ) → List ℕ

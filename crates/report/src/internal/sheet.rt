@@ -9,8 +9,8 @@ ghost use mathlib.Core.Path.{_≡_};
 ghost use Prim.Native.Nat.{_+_, _*_, _≤_};
 ghost use lib.ListN.{length};
 ghost use Rattle.outcome.specs.Table.{paper};
-ghost use Rattle.report.specs.Sheet.{bound, bounds, ending, counted, calculated, refusal};
-ghost use Rattle.report.specs.Code.{written, Put};
+ghost use Rattle.report.specs.Sheet.{bound, bounds, counted, calculated, refusal};
+ghost use Rattle.report.specs.Code.{written, Put, ending};
 
 fn put_bound(out: &mut [u8], at: usize, v: Interval) -> usize
     requires { ⌜ at + 41 ≤ length (now out) ⌝ }
