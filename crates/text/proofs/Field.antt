@@ -6,9 +6,9 @@ use native.Mathlib.Omega.{arith}
 use native.Mathlib.Nat.{zero-add}
 use lib.ListN.{length, take, drop, length-drop}
 use lib.Seq.{length-take-le}
-use Rattle.text.specs.declared.internal.search.Found.the-variants.{At, Nothing}
+use Rattle.text.specs.declared.internal.search.Found.the-variants.{Nothing}
 use Rattle.text.specs.Parts.{firstFrom, parts, part, startOf}
-use Rattle.text.proofs.Parts.{parts-at, parts-none}
+use Rattle.text.proofs.Parts.{FirstAt, parts-at, parts-none}
 
 -- i parts are passed and the next one starts at `at`: the part with the number k is then the one with the number k − i from there
 pub record Reached (line : List ℕ) (k i at : ℕ) : Type 0 where
@@ -18,8 +18,8 @@ pub record Reached (line : List ℕ) (k i at : ℕ) : Type 0 where
   pub same : part (parts 59 (drop at line)) (k - i) ≡ part (parts 59 line) k
 
 -- a part that a separator ends at e has the bytes up to it
-cut-length : (line : List ℕ) (at e : ℕ) → at ≤ e → e < length line → length (take (e - at) (drop at line)) ≡ e - at
-cut-length line at e h l = length-take-le (e - at) (drop at line) (rw (length-drop at line) (omega arith))
+cut-length : (line : List ℕ) (at e : ℕ) → FirstAt line at 59 e → length (take (e - at) (drop at line)) ≡ e - at
+cut-length line at e f = length-take-le (e - at) (drop at line) (rw (length-drop at line) (omega arith))
 
 start-none : (ps : List (List ℕ)) → startOf ps 0 ≡ 0
 unfolding startOf
@@ -33,15 +33,15 @@ module _ (line : List ℕ) (k : ℕ) where
       record { inside = omega arith; more = rw z h; start = rw z (zero-add (startOf (parts 59 line) k)); same = rw z }
 
   -- past the separator at e starts the next part
-  pub reached-next : (i at e : ℕ) → Reached line k i at → i < k → firstFrom line at 59 ≡ At e → (at ≤ e) × (e < length line) → Reached line k (i + 1) (e + 1)
+  pub reached-next : (i at e : ℕ) → Reached line k i at → i < k → FirstAt line at 59 e → Reached line k (i + 1) (e + 1)
   unfolding startOf part
-  reached-next i at e r h f w =
+  reached-next i at e r h f =
       let d : k - i ≡ suc (k - (i + 1)) = omega arith in
-      let q = parts-at line at 59 e f in
-      let l = cut-length line at e (w .0) (w .1) in
+      let q = parts-at line at 59 e (f .is) in
+      let l = cut-length line at e f in
       let m = rw (d, q) at (r .more) in
       let s = rw (d, q, l) at (r .start) in
-      record { inside = omega arith; more = omega (arith, m); start = omega (arith, s, w); same = rw (d, q) at (r .same) }
+      record { inside = omega arith; more = omega (arith, m); start = omega (arith, s); same = rw (d, q) at (r .same) }
 
   -- a part is left, so there is a separator
   pub reached-not : {A : Type 0} (i at : ℕ) → Reached line k i at → i < k → firstFrom line at 59 ≡ Nothing → A
@@ -55,9 +55,9 @@ module _ (line : List ℕ) (k : ℕ) where
 
 -- where the part that starts at `at` stops
 module _ (line : List ℕ) (at : ℕ) where
-  pub stop-at : (e : ℕ) → firstFrom line at 59 ≡ At e → (at ≤ e) × (e < length line) → (e ≡ at + length (part (parts 59 (drop at line)) 0)) × (e ≤ length line)
+  pub stop-at : (e : ℕ) → FirstAt line at 59 e → (e ≡ at + length (part (parts 59 (drop at line)) 0)) × (e ≤ length line)
   unfolding part
-  stop-at e f w = (rw (parts-at line at 59 e f, cut-length line at e (w .0) (w .1)) (omega arith), omega arith)
+  stop-at e f = (rw (parts-at line at 59 e (f .is), cut-length line at e f) (omega arith), omega arith)
 
   pub stop-none : at ≤ length line → firstFrom line at 59 ≡ Nothing → (length line ≡ at + length (part (parts 59 (drop at line)) 0)) × (length line ≤ length line)
   unfolding part

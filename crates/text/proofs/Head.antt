@@ -86,6 +86,10 @@ split n t h l =
     )
 
 module _ {s : List ℕ} {h : Heading} (w : Headed s h) where
+  -- line 1 lies in the text
+  pub stops : length (take (h .stop) s) ≡ h .stop
+  stops = length-take-le (h .stop) s (omega (arith, w .inside))
+
   reading-by : reading s ≡ balanced (take (h .stop) s) (rowsFrom (h .count) (h .count + 1) 2 (parts 10 (drop (h .stop + 1) s)))
   unfolding reading
   reading-by = rw (w .is, w .counted)

@@ -1,20 +1,15 @@
-use mathlib.Core.Path.{_≡_, sym, subst}
+use mathlib.Core.Path.{sym, subst}
 use native.Mathlib.Omega.{arith}
 use borrow.Author.Needs.{needs}
-use lib.ListN.{length, take}
-use lib.Seq.{length-take-le}
 use Rattle.text.specs.Code.{Heads, Headed}
+use Rattle.text.proofs.Head.{stops}
 use Rattle.text.proofs.Spans.{name-none, name-low, name-high, name-span, within-line, empty-part, named-part}
 use Rattle.text.proofs.name.Statement.{statement}
 use Rattle.text.proofs.name.Tie as tie
 
 -- what is known of line 1
 known : (a : tie.After-h) → Headed (a .before .before .before .before .args .text .now) (a .h .given .0 .0)
-known a = subst (Heads (a .before .before .before .before .args .text .now)) (a .h .given .1) (a .before .before .read-head .ensures)
-
--- line 1 lies in the text
-stops : (a : tie.After-h) → length (take (a .h .given .0 .0 .stop) (a .before .before .before .before .args .text .now)) ≡ a .h .given .0 .0 .stop
-stops a = length-take-le _ _ (omega (arith, known a .inside))
+known a = subst (Heads _) (a .h .given .1) (a .before .before .read-head .ensures)
 
 read-head-requires : tie.Need-read-head-requires
 read-head-requires c κs = search needs
@@ -41,7 +36,7 @@ returns-2 c =
     empty-part _ _ (g .args .text .ptr) (name-high _ _ (known a) (c .before .before .if1 .left) (c .before .if2 .taken))
 
 slice-aggregate-line : tie.Need-slice-aggregate-line
-slice-aggregate-line c = sym (stops (c .before .before .before .before))
+slice-aggregate-line c = sym (stops (known (c .before .before .before .before)))
 
 start-of-requires : tie.Need-start-of-requires
 start-of-requires c κs = within-line _ _ (known (c .before .before .before .before)) (c .before .before .if1 .left) (c .before .if2 .left)
@@ -58,7 +53,7 @@ part-result-start c = search needs
 part-result-end : tie.Need-part-result-end
 part-result-end c =
     let a = c .before .before .before .before .before .before in
-    omega (arith, c .stop-from .ensures .1, stops a, known a .inside)
+    omega (arith, c .stop-from .ensures .1, stops (known a), known a .inside)
 
 enum-told : tie.Need-enum-told
 enum-told c = search needs
@@ -72,7 +67,7 @@ returns-3 c =
     let l = m .before in
     let a = l .before .before .before .before in
     let g = a .before .before .before .before in
-    named-part _ _ (g .args .text .ptr) _ _ (omega (arith, c .before .stop-from .ensures .1, stops a, known a .inside))
+    named-part _ _ (g .args .text .ptr) _ _ (omega (arith, c .before .stop-from .ensures .1, stops (known a), known a .inside))
     (name-span _ _ (known a) (l .before .before .if1 .left) (l .before .if2 .left) _ _ (m .start-of .ensures .0 .0) (m .start-of .ensures .1) (c .before .stop-from .ensures .0))
 
 returns-4 : tie.Need-returns-4

@@ -1,20 +1,15 @@
-use mathlib.Core.Path.{_≡_, sym, subst}
+use mathlib.Core.Path.{sym, subst}
 use native.Mathlib.Omega.{arith}
 use borrow.Author.Needs.{needs}
-use lib.ListN.{length, take}
-use lib.Seq.{length-take-le}
 use Rattle.text.specs.Code.{Headed, Fits}
+use Rattle.text.proofs.Head.{stops}
 use Rattle.report.proofs.Run.{sheet-is, sheet-too, sheet-solved, sheet-refused}
 use Rattle.report.proofs.internal.run.put_sheet.Statement.{statement}
 use Rattle.report.proofs.internal.run.put_sheet.Tie as tie
 
 -- what is known of line 1
 known : (a : tie.After-h) → Headed (a .before .before .before .before .before .before .before .args .text .now) (a .h .given .0 .0)
-known a = subst (Fits (a .before .before .before .before .before .before .before .args .text .now)) (a .h .given .1) (a .before .before .before .read-text .ensures .1)
-
--- line 1 lies in the text
-stops : (a : tie.After-h) → length (take (a .h .given .0 .0 .stop) (a .before .before .before .before .before .before .before .args .text .now)) ≡ a .h .given .0 .0 .stop
-stops a = length-take-le _ _ (omega (arith, known a .inside))
+known a = subst (Fits _) (a .h .given .1) (a .before .before .before .read-text .ensures .1)
 
 slice-aggregate-read-text : tie.Need-slice-aggregate-read-text
 slice-aggregate-read-text c = search needs
@@ -26,7 +21,7 @@ enum-known-h : tie.Need-enum-known-h
 enum-known-h c = search needs
 
 slice-aggregate-put-solved : tie.Need-slice-aggregate-put-solved
-slice-aggregate-put-solved c = sym (stops (c .before .before .before))
+slice-aggregate-put-solved c = sym (stops (known (c .before .before .before)))
 
 slice-aggregate-put-solved-2 : tie.Need-slice-aggregate-put-solved-2
 slice-aggregate-put-solved-2 c = search needs
@@ -35,7 +30,7 @@ put-solved-requires : tie.Need-put-solved-requires
 put-solved-requires c κs =
     let a = c .before .before .before .before in
     let w = known a in
-    ((a .before .before .before .before .before .before .before .pre, omega (arith, stops a, w .short)), (w .some, w .few, a .before .before .before .read-text .kept .1 .0))
+    ((a .before .before .before .before .before .before .before .pre, omega (arith, stops w, w .short)), (w .some, w .few, a .before .before .before .read-text .kept .1 .0))
 
 enum-known-line : tie.Need-enum-known-line
 enum-known-line c = search needs

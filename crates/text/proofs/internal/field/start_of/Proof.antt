@@ -1,9 +1,8 @@
-use mathlib.Core.Path.{sym, subst, _∙_}
-use Prim.Native.Nat.{_-_, _≤_, _<_}
+use mathlib.Core.Path.{sym, _∙_}
+use Prim.Native.Nat.{_-_}
 use native.Mathlib.Omega.{arith}
 use borrow.Author.Needs.{needs}
-use lib.ListN.{length}
-use Rattle.text.specs.Code.{within}
+use Rattle.text.proofs.Parts.{FirstAt, first-at}
 use Rattle.text.proofs.Field.{Reached, reached-first, reached-next, reached-not, reached-last}
 use Rattle.text.proofs.internal.field.start_of.Statement.{statement}
 use Rattle.text.proofs.internal.field.start_of.Tie as tie
@@ -14,9 +13,9 @@ Inv-loop line k at₀ i₀ at i = Reached line k i at
 abbrev μ-loop : tie.MeasureT-loop
 μ-loop line k at₀ i₀ at i = k - i
 
--- the separator found lies in the line
-inside : (c : tie.After-known-told Inv-loop μ-loop) → let l = c .before .before .before .before .before in (l .loop .at ≤ c .before .e .given .0 .0) × (c .before .e .given .0 .0 < length (l .before .before .args .line .now))
-inside c = subst (within _ _) (c .before .e .given .1) (c .before .before .before .search .ensures .1)
+-- where the search found the end of a part
+found : (c : tie.After-known-told Inv-loop μ-loop) → let l = c .before .before .before .before .before in FirstAt (l .before .before .args .line .now) (l .loop .at) 59 (c .before .e .given .0 .0)
+found c = first-at (c .before .before .before .search .ensures) (c .before .e .given .1)
 
 loop-holds : tie.Need-loop-holds Inv-loop μ-loop
 loop-holds c = reached-first _ _ (c .before .pre)
@@ -28,7 +27,7 @@ enum-known-e : tie.Need-enum-known-e Inv-loop μ-loop
 enum-known-e c = search needs
 
 add-at : tie.Need-add-at Inv-loop μ-loop
-add-at c = omega (arith, inside c)
+add-at c = omega (arith, found c)
 
 enum-told : tie.Need-enum-told Inv-loop μ-loop
 enum-told c = search needs
@@ -47,9 +46,8 @@ loop-less c = omega arith
 
 loop-again : tie.Need-loop-again Inv-loop μ-loop
 loop-again c =
-    let a = c .before .before .before in
-    let l = a .before in
-    reached-next _ _ _ _ _ (l .before .loop .inv) (l .loop-test .taken) (sym (a .search .ensures .0) ∙ c .before .e .given .1) (inside c)
+    let l = c .before .before .before .before in
+    reached-next _ _ _ _ _ (l .before .loop .inv) (l .loop-test .taken) (found c)
 
 returns-2 : tie.Need-returns-2 Inv-loop μ-loop
 returns-2 c = reached-last _ _ _ _ (c .before .loop .inv) (c .loop-test .left)

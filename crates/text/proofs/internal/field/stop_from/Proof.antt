@@ -1,6 +1,6 @@
-use mathlib.Core.Path.{sym, subst, _∙_}
+use mathlib.Core.Path.{sym, _∙_}
 use borrow.Author.Needs.{needs}
-use Rattle.text.specs.Code.{within}
+use Rattle.text.proofs.Parts.{first-at}
 use Rattle.text.proofs.Field.{stop-at, stop-none}
 use Rattle.text.proofs.internal.field.stop_from.Statement.{statement}
 use Rattle.text.proofs.internal.field.stop_from.Tie as tie
@@ -15,10 +15,7 @@ enum-told : tie.Need-enum-told
 enum-told c = search needs
 
 returns : tie.Need-returns
-returns c =
-    let a = c .before .before .before in
-    let e = c .before .e .given .1 in
-    stop-at _ _ _ (sym (a .search .ensures .0) ∙ e) (subst (within _ _) e (a .search .ensures .1))
+returns c = stop-at _ _ _ (first-at (c .before .before .before .search .ensures) (c .before .e .given .1))
 
 returns-2 : tie.Need-returns-2
 returns-2 c =

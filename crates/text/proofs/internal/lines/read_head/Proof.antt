@@ -1,22 +1,16 @@
-use mathlib.Core.Path.{_≡_, sym, subst, _∙_}
-use Prim.Native.Nat.{_<_}
+use mathlib.Core.Path.{sym, subst, _∙_}
 use native.Mathlib.Omega.{arith}
 use borrow.Author.Needs.{needs}
-use lib.ListN.{length}
 use lib.Seq.{length-take-le}
-use Rattle.text.specs.declared.internal.search.Found.the-variants.{At}
-use Rattle.text.specs.Parts.{firstFrom}
 use Rattle.text.specs.Code.{Few}
+use Rattle.text.proofs.Parts.{FirstAt, first-at}
 use Rattle.text.proofs.Head.{head-long, head-unended, head-faulty, head-named}
 use Rattle.text.proofs.internal.lines.read_head.Statement.{statement}
 use Rattle.text.proofs.internal.lines.read_head.Tie as tie
 
 -- where line 1 ends
-found : (a : tie.After-e) → firstFrom (a .before .before .before .before .before .args .text .now) 0 10 ≡ At (a .e .given .0 .0)
-found a = sym (a .before .before .search .ensures .0) ∙ a .e .given .1
-
-inside : (a : tie.After-e) → a .e .given .0 .0 < length (a .before .before .before .before .before .args .text .now)
-inside a = rw (a .e .given .1) at (a .before .before .search .ensures .1) .1
+found : (a : tie.After-e) → FirstAt (a .before .before .before .before .before .args .text .now) 0 10 (a .e .given .0 .0)
+found a = first-at (a .before .before .search .ensures) (a .e .given .1)
 
 returns : tie.Need-returns
 returns c = head-long _ (c .if1 .taken)
@@ -30,7 +24,7 @@ enum-known-e c = search needs
 slice-aggregate-read-names : tie.Need-slice-aggregate-read-names
 slice-aggregate-read-names c =
     let a = c .before .before in
-    sym (length-take-le _ _ (omega (arith, inside a)))
+    sym (length-take-le _ _ (omega (arith, found a)))
 
 read-names-requires : tie.Need-read-names-requires
 read-names-requires c κs = search needs
@@ -48,13 +42,13 @@ returns-2 : tie.Need-returns-2
 returns-2 c =
     let d = c .before in
     let a = d .before .before .before .before .before in
-    head-named _ (a .before .before .before .if1 .left) (found a) (sym (d .before .before .read-names .ensures .0) ∙ d .n .given .1) (subst (Few _) (d .n .given .1) (d .before .before .read-names .ensures .1)) (inside a)
+    head-named _ (a .before .before .before .if1 .left) (found a .is) (sym (d .before .before .read-names .ensures .0) ∙ d .n .given .1) (subst (Few _) (d .n .given .1) (d .before .before .read-names .ensures .1)) (found a .high)
 
 returns-3 : tie.Need-returns-3
 returns-3 c =
     let d = c .before .before in
     let a = d .before .before .before in
-    head-faulty _ (a .before .before .before .if1 .left) (found a) (sym (d .read-names .ensures .0) ∙ c .enum-told .given .1)
+    head-faulty _ (a .before .before .before .if1 .left) (found a .is) (sym (d .read-names .ensures .0) ∙ c .enum-told .given .1)
 
 returns-4 : tie.Need-returns-4
 returns-4 c = head-unended _ (c .before .before .before .if1 .left) (sym (c .before .before .search .ensures .0) ∙ c .enum-told2 .given .1)

@@ -1,14 +1,14 @@
 use mathlib.Core.Path.{_≡_, sym, ap, _∙_}
-use Prim.Native.Nat.{_+_, _-_, _*_, _≤_, _<_}
+use Prim.Native.Nat.{_+_, _-_, _*_, _≤_}
 use native.Mathlib.Omega.{arith}
 use borrow.Author.Needs.{needs}
 use borrow.Author.Tests.{not-true, not-false}
 use lib.ListN.{length, take, drop}
-use Rattle.text.specs.declared.internal.search.Found.the-variants.{At}
-use Rattle.text.specs.Parts.{firstFrom, parts}
+use Rattle.text.specs.Parts.{parts}
 use Rattle.text.specs.Number.{read}
 use Rattle.text.specs.Text.{lineThen, rowsFrom, faulty, rows}
 use Rattle.text.specs.Code.{onlyIf}
+use Rattle.text.proofs.Parts.{FirstAt, first-at}
 use Rattle.text.proofs.Lines.{rows-first, rows-go, rows-out, rows-missing, rows-end, rows-surplus, room, row-after}
 use Rattle.text.proofs.internal.lines.read_rows.Statement.{statement}
 use Rattle.text.proofs.internal.lines.read_rows.Tie as tie
@@ -22,11 +22,8 @@ abbrev μ-loop : tie.MeasureT-loop
 μ-loop text from n t₀ at₀ i₀ i-end t at i = n + 1 - i
 
 -- where the search found the end of a line
-found : (k : tie.After-known-told Inv-loop μ-loop) → firstFrom (k .before .before .before .before .before .before .before .args .text .now) (k .before .before .before .before .before .loop .at) 10 ≡ At (k .before .e .given .0 .0)
-found k = sym (k .before .before .before .search .ensures .0) ∙ k .before .e .given .1
-
-bounds : (k : tie.After-known-told Inv-loop μ-loop) → (k .before .before .before .before .before .loop .at ≤ k .before .e .given .0 .0) × (k .before .e .given .0 .0 < length (k .before .before .before .before .before .before .before .args .text .now))
-bounds k = rw (k .before .e .given .1) at (k .before .before .before .search .ensures .1)
+found : (k : tie.After-known-told Inv-loop μ-loop) → let l = k .before .before .before .before .before in FirstAt (l .before .before .args .text .now) (l .loop .at) 10 (k .before .e .given .0 .0)
+found k = first-at (k .before .before .before .search .ensures) (k .before .e .given .1)
 
 add-i-end : tie.Need-add-i-end Inv-loop μ-loop
 add-i-end c = omega arith
@@ -43,13 +40,13 @@ enum-known-e : tie.Need-enum-known-e Inv-loop μ-loop
 enum-known-e c = search needs
 
 sub-read-values : tie.Need-sub-read-values Inv-loop μ-loop
-sub-read-values c = bounds c .0
+sub-read-values c = found c .low
 
 part-read-values-start : tie.Need-part-read-values-start Inv-loop μ-loop
-part-read-values-start c = bounds c .0
+part-read-values-start c = found c .low
 
 part-read-values-end : tie.Need-part-read-values-end Inv-loop μ-loop
-part-read-values-end c = omega (arith, bounds c .1)
+part-read-values-end c = omega (arith, found c)
 
 mul-read-values : tie.Need-mul-read-values Inv-loop μ-loop
 mul-read-values c =
@@ -74,10 +71,10 @@ returns c =
     let l = k .before .before .before .before .before in
     let a = l .before .before in
     let q = ap (λ b. onlyIf b (take (2 * (l .loop .i * a .args .n + a .args .n)) (v .read-values .last .1 .1 .0))) (sym (not-true (v .read-values .result) (c .if1 .taken))) ∙ v .read-values .ensures in
-    sym (l .loop .inv .3 ∙ rows-out _ _ _ _ (take (2 * (l .loop .i * a .args .n)) (l .loop .t)) (found k) (omega arith) q)
+    sym (l .loop .inv .3 ∙ rows-out _ _ _ _ (take (2 * (l .loop .i * a .args .n)) (l .loop .t)) (found k .is) (omega arith) q)
 
 add-at : tie.Need-add-at Inv-loop μ-loop
-add-at c = omega (arith, bounds (c .before .before .before .before .before))
+add-at c = omega (arith, found (c .before .before .before .before .before))
 
 enum-told : tie.Need-enum-told Inv-loop μ-loop
 enum-told c = search needs
@@ -108,11 +105,11 @@ loop-again c =
     let a = l .before .before in
     let last = v .read-values .last .1 .1 .0 in
     let q = ap (λ b. onlyIf b (take (2 * (l .loop .i * a .args .n + a .args .n)) last)) (sym (not-false (v .read-values .result) (c .if1 .left))) ∙ v .read-values .ensures in (
-      omega (arith, bounds k),
+      omega (arith, found k),
       omega arith,
       v .read-values .kept .1 .1 .0 ∙ l .loop .inv .2,
       l .loop .inv .3
-          ∙ rows-go _ _ _ _ (take (2 * (l .loop .i * a .args .n)) (l .loop .t)) (found k) (omega arith) q
+          ∙ rows-go _ _ _ _ (take (2 * (l .loop .i * a .args .n)) (l .loop .t)) (found k .is) (omega arith) q
           ∙ ap (λ m. lineThen 0 (read (take (2 * m) last)) (rowsFrom (a .args .n) (a .args .n + 1 - (l .loop .i + 1)) (l .loop .i + 1 + 2) (parts 10 (drop (k .before .e .given .0 .0 + 1) (a .args .text .now))))) (sym (row-after (a .args .n) (l .loop .i))),
     )
 

@@ -8,7 +8,7 @@ use Rattle.text.proofs.internal.lines.read_text.Tie as tie
 
 -- what is known of line 1
 known : (a : tie.After-h) → Headed (a .before .before .before .before .args .text .now) (a .h .given .0 .0)
-known a = subst (Heads (a .before .before .before .before .args .text .now)) (a .h .given .1) (a .before .before .read-head .ensures)
+known a = subst (Heads _) (a .h .given .1) (a .before .before .read-head .ensures)
 
 read-head-requires : tie.Need-read-head-requires
 read-head-requires c κs = search needs

@@ -1,12 +1,11 @@
 use mathlib.Core.Path.{_≡_, refl, sym, _∙_}
-use Prim.Native.Nat.{_-_, _≤_, _<_}
+use Prim.Native.Nat.{_-_, _≤_}
 use native.Mathlib.Omega.{arith}
 use borrow.Author.Needs.{needs}
 use lib.ListN.{length, drop}
-use Rattle.text.specs.declared.internal.search.Found.the-variants.{At}
-use Rattle.text.specs.Parts.{firstFrom, parts}
+use Rattle.text.specs.Parts.{parts}
 use Rattle.text.specs.Names.{among}
-use Rattle.text.proofs.Parts.{to-end}
+use Rattle.text.proofs.Parts.{FirstAt, first-at, to-end}
 use Rattle.text.proofs.Names.{same-is, among-last, among-here, among-go}
 use Rattle.text.proofs.internal.names.is_among.Statement.{statement}
 use Rattle.text.proofs.internal.names.is_among.Tie as tie
@@ -18,11 +17,8 @@ abbrev μ-loop : tie.MeasureT-loop
 μ-loop rest name at₀ at = length rest - at
 
 -- where the search found the end of a part
-found : (k : tie.After-known-told Inv-loop μ-loop) → firstFrom (k .before .before .before .before .before .before .before .args .rest .now) (k .before .before .before .before .loop .at) 59 ≡ At (k .before .e .given .0 .0)
-found k = sym (k .before .before .before .search .ensures .0) ∙ k .before .e .given .1
-
-bounds : (k : tie.After-known-told Inv-loop μ-loop) → (k .before .before .before .before .loop .at ≤ k .before .e .given .0 .0) × (k .before .e .given .0 .0 < length (k .before .before .before .before .before .before .before .args .rest .now))
-bounds k = rw (k .before .e .given .1) at (k .before .before .before .search .ensures .1)
+found : (k : tie.After-known-told Inv-loop μ-loop) → let l = k .before .before .before .before in FirstAt (l .before .before .before .args .rest .now) (l .loop .at) 59 (k .before .e .given .0 .0)
+found k = first-at (k .before .before .before .search .ensures) (k .before .e .given .1)
 
 loop-holds : tie.Need-loop-holds Inv-loop μ-loop
 loop-holds c = (omega arith, refl)
@@ -34,13 +30,13 @@ enum-known-e : tie.Need-enum-known-e Inv-loop μ-loop
 enum-known-e c = search needs
 
 sub-same : tie.Need-sub-same Inv-loop μ-loop
-sub-same c = bounds c .0
+sub-same c = found c .low
 
 part-same-start : tie.Need-part-same-start Inv-loop μ-loop
-part-same-start c = bounds c .0
+part-same-start c = found c .low
 
 part-same-end : tie.Need-part-same-end Inv-loop μ-loop
-part-same-end c = omega (arith, bounds c .1)
+part-same-end c = omega (arith, found c)
 
 same-requires : tie.Need-same-requires Inv-loop μ-loop
 same-requires c κs = tt
@@ -49,19 +45,19 @@ returns : tie.Need-returns Inv-loop μ-loop
 returns c =
     let a = c .before in
     let k = a .before .before in
-    sym (among-here _ _ _ _ (found k) (sym (same-is _ _ _ (a .same .ensures)) ∙ c .if1 .taken)) ∙ k .before .before .before .before .loop .inv .1
+    sym (among-here _ _ _ _ (found k .is) (sym (same-is _ _ _ (a .same .ensures)) ∙ c .if1 .taken)) ∙ k .before .before .before .before .loop .inv .1
 
 add-at : tie.Need-add-at Inv-loop μ-loop
-add-at c = omega (arith, bounds (c .before .before .before))
+add-at c = omega (arith, found (c .before .before .before))
 
 loop-less : tie.Need-loop-less Inv-loop μ-loop
-loop-less c = omega (arith, bounds (c .before .before .before))
+loop-less c = omega (arith, found (c .before .before .before))
 
 loop-again : tie.Need-loop-again Inv-loop μ-loop
 loop-again c =
     let a = c .before in
     let k = a .before .before in
-    (omega (arith, bounds k), sym (among-go _ _ _ _ (found k) (sym (same-is _ _ _ (a .same .ensures)) ∙ c .if1 .left)) ∙ k .before .before .before .before .loop .inv .1)
+    (omega (arith, found k), sym (among-go _ _ _ _ (found k .is) (sym (same-is _ _ _ (a .same .ensures)) ∙ c .if1 .left)) ∙ k .before .before .before .before .loop .inv .1)
 
 enum-told : tie.Need-enum-told Inv-loop μ-loop
 enum-told c = search needs

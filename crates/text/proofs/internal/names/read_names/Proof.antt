@@ -1,15 +1,15 @@
 use mathlib.Core.Path.{_≡_, sym, _∙_}
 use mathlib.Core.Bool.{true}
-use Prim.Native.Nat.{_-_, _*_, _≤_, _<_}
+use Prim.Native.Nat.{_-_, _*_, _≤_}
 use native.Mathlib.Omega.{arith}
 use borrow.Author.Needs.{needs}
 use borrow.Author.Tests.{not-true, not-false}
 use lib.ListN.{length, take, drop}
-use Rattle.text.specs.declared.internal.search.Found.the-variants.{At, Nothing}
+use Rattle.text.specs.declared.internal.search.Found.the-variants.{Nothing}
 use Rattle.text.specs.Parts.{firstFrom, parts}
 use Rattle.text.specs.Names.{isName}
 use Rattle.text.specs.Code.{namesOf}
-use Rattle.text.proofs.Parts.{to-end}
+use Rattle.text.proofs.Parts.{FirstAt, first-at, to-end}
 use Rattle.text.proofs.Names.{short-to, short-last, counted, counted-all, counted-many, counted-last, counted-wrong, counted-no-name, counted-twice, counted-go}
 use Rattle.text.proofs.internal.names.read_names.Statement.{statement}
 use Rattle.text.proofs.internal.names.read_names.Tie as tie
@@ -22,11 +22,8 @@ abbrev μ-loop : tie.MeasureT-loop
 μ-loop line at₀ n₀ at n = 32 - n
 
 -- where the search found the end of a part
-found : (k : tie.After-known-told Inv-loop μ-loop) → firstFrom (k .before .before .before .before .before .before .before .args .line .now) (k .before .before .before .before .before .loop .at) 59 ≡ At (k .before .e .given .0 .0)
-found k = sym (k .before .before .before .search .ensures .0) ∙ k .before .e .given .1
-
-bounds : (k : tie.After-known-told Inv-loop μ-loop) → (k .before .before .before .before .before .loop .at ≤ k .before .e .given .0 .0) × (k .before .e .given .0 .0 < length (k .before .before .before .before .before .before .before .args .line .now))
-bounds k = rw (k .before .e .given .1) at (k .before .before .before .search .ensures .1)
+found : (k : tie.After-known-told Inv-loop μ-loop) → let l = k .before .before .before .before .before in FirstAt (l .before .before .args .line .now) (l .loop .at) 59 (k .before .e .given .0 .0)
+found k = first-at (k .before .before .before .search .ensures) (k .before .e .given .1)
 
 -- that part is a name
 named : (u : tie.Else1 Inv-loop μ-loop) → isName (take (u .before .before .before .before .e .given .0 .0 - u .before .before .before .before .before .before .before .before .loop .at) (drop (u .before .before .before .before .before .before .before .before .loop .at) (u .before .before .before .before .before .before .before .before .before .before .args .line .now))) ≡ true
@@ -46,13 +43,13 @@ enum-known-e : tie.Need-enum-known-e Inv-loop μ-loop
 enum-known-e c = search needs
 
 sub-name : tie.Need-sub-name Inv-loop μ-loop
-sub-name c = bounds c .0
+sub-name c = found c .low
 
 part-name-start : tie.Need-part-name-start Inv-loop μ-loop
-part-name-start c = bounds c .0
+part-name-start c = found c .low
 
 part-name-end : tie.Need-part-name-end Inv-loop μ-loop
-part-name-end c = omega (arith, bounds c .1)
+part-name-end c = omega (arith, found c)
 
 is-name-requires : tie.Need-is-name-requires Inv-loop μ-loop
 is-name-requires c κs = tt
@@ -60,16 +57,16 @@ is-name-requires c κs = tt
 returns : tie.Need-returns Inv-loop μ-loop
 returns c =
     let k = c .before .before .before in
-    (sym (counted-no-name _ _ _ _ (found k) (sym (c .before .is-name .ensures) ∙ not-true _ (c .if1 .taken))) ∙ k .before .before .before .before .before .loop .inv .2, tt)
+    (sym (counted-no-name _ _ _ _ (found k .is) (sym (c .before .is-name .ensures) ∙ not-true _ (c .if1 .taken))) ∙ k .before .before .before .before .before .loop .inv .2, tt)
 
 add-is-among : tie.Need-add-is-among Inv-loop μ-loop
-add-is-among c = omega (arith, bounds (c .before .before .before))
+add-is-among c = omega (arith, found (c .before .before .before))
 
 sub-is-among : tie.Need-sub-is-among Inv-loop μ-loop
-sub-is-among c = omega (arith, bounds (c .before .before .before))
+sub-is-among c = omega (arith, found (c .before .before .before))
 
 part-is-among-start : tie.Need-part-is-among-start Inv-loop μ-loop
-part-is-among-start c = omega (arith, bounds (c .before .before .before))
+part-is-among-start c = omega (arith, found (c .before .before .before))
 
 part-is-among-end : tie.Need-part-is-among-end Inv-loop μ-loop
 part-is-among-end c = search needs
@@ -82,10 +79,10 @@ returns-2 c =
     let a = c .before in
     let u = a .before .before in
     let k = u .before .before .before in
-    (sym (counted-twice _ _ _ _ (found k) (named u) (sym (rw to-end at (a .is-among .ensures)) ∙ c .if2 .taken)) ∙ k .before .before .before .before .before .loop .inv .2, tt)
+    (sym (counted-twice _ _ _ _ (found k .is) (named u) (sym (rw to-end at (a .is-among .ensures)) ∙ c .if2 .taken)) ∙ k .before .before .before .before .before .loop .inv .2, tt)
 
 add-at : tie.Need-add-at Inv-loop μ-loop
-add-at c = omega (arith, bounds (c .before .before .before .before .before .before))
+add-at c = omega (arith, found (c .before .before .before .before .before .before))
 
 enum-told : tie.Need-enum-told Inv-loop μ-loop
 enum-told c = search needs
@@ -130,8 +127,8 @@ loop-again c =
     let u = a .before .before in
     let k = u .before .before .before in
     let l = k .before .before .before .before .before in
-    let h = bounds k .1 in
-    (omega arith, omega (arith, short-to _ _ _ h (named u)), sym (counted-go _ _ _ _ (found k) (named u) (sym (rw to-end at (a .is-among .ensures)) ∙ c .if2 .left)) ∙ l .loop .inv .2)
+    let h = found k .high in
+    (omega arith, omega (arith, short-to _ _ _ h (named u)), sym (counted-go _ _ _ _ (found k .is) (named u) (sym (rw to-end at (a .is-among .ensures)) ∙ c .if2 .left)) ∙ l .loop .inv .2)
 
 returns-5 : tie.Need-returns-5 Inv-loop μ-loop
 returns-5 c = (sym (counted-many _ _ (c .loop-test .left)) ∙ c .before .loop .inv .2, tt)

@@ -7,10 +7,10 @@ use borrow.Author.Needs.{needs}
 use borrow.Author.Tests.{not-true, not-false}
 use lib.IntN.{ℤ}
 use lib.ListN.{length, take, drop}
-use Rattle.text.specs.declared.internal.search.Found.the-variants.{At}
-use Rattle.text.specs.Parts.{firstFrom, parts}
+use Rattle.text.specs.Parts.{parts}
 use Rattle.text.specs.Number.{read, value, then, values}
 use Rattle.text.specs.Code.{onlyIf}
+use Rattle.text.proofs.Parts.{FirstAt, first-at}
 use Rattle.text.proofs.Values.{line-go, line-out, line-long, line-short, line-last}
 use Rattle.text.proofs.internal.values.read_values.Statement.{statement}
 use Rattle.text.proofs.internal.values.read_values.Tie as tie
@@ -24,11 +24,8 @@ abbrev μ-loop : tie.MeasureT-loop
 μ-loop line n t₀ p at₀ i₀ i-end t at i = n - 1 - i
 
 -- where the search found the end of a part
-found : (k : tie.After-known-told Inv-loop μ-loop) → firstFrom (k .before .before .before .before .before .before .before .args .line .now) (k .before .before .before .before .before .loop .at) 59 ≡ At (k .before .e .given .0 .0)
-found k = sym (k .before .before .before .search .ensures .0) ∙ k .before .e .given .1
-
-bounds : (k : tie.After-known-told Inv-loop μ-loop) → (k .before .before .before .before .before .loop .at ≤ k .before .e .given .0 .0) × (k .before .e .given .0 .0 < length (k .before .before .before .before .before .before .before .args .line .now))
-bounds k = rw (k .before .e .given .1) at (k .before .before .before .search .ensures .1)
+found : (k : tie.After-known-told Inv-loop μ-loop) → let l = k .before .before .before .before .before in FirstAt (l .before .before .args .line .now) (l .loop .at) 59 (k .before .e .given .0 .0)
+found k = first-at (k .before .before .before .search .ensures) (k .before .e .given .1)
 
 sub-i-end : tie.Need-sub-i-end Inv-loop μ-loop
 sub-i-end c = omega arith
@@ -48,13 +45,13 @@ enum-known-e : tie.Need-enum-known-e Inv-loop μ-loop
 enum-known-e c = search needs
 
 sub-place-value : tie.Need-sub-place-value Inv-loop μ-loop
-sub-place-value c = bounds c .0
+sub-place-value c = found c .low
 
 part-place-value-start : tie.Need-part-place-value-start Inv-loop μ-loop
-part-place-value-start c = bounds c .0
+part-place-value-start c = found c .low
 
 part-place-value-end : tie.Need-part-place-value-end Inv-loop μ-loop
-part-place-value-end c = omega (arith, bounds c .1)
+part-place-value-end c = omega (arith, found c)
 
 add-place-value : tie.Need-add-place-value Inv-loop μ-loop
 add-place-value c = omega arith
@@ -71,12 +68,12 @@ returns c =
     let k = v .before .before .before in
     let l = k .before .before .before .before .before in
     let a = l .before .before in
-    line-out _ _ _ _ (read (take (2 * (a .args .p + l .loop .i)) (l .loop .t))) (found k) (omega arith)
+    line-out _ _ _ _ (read (take (2 * (a .args .p + l .loop .i)) (l .loop .t))) (found k .is) (omega arith)
     (ap (λ b. onlyIf b (take (2 * (a .args .p + l .loop .i + 1)) (v .place-value .last .1 .0))) (sym (not-true (v .place-value .result) (c .if1 .taken))) ∙ v .place-value .ensures)
     ∙ sym (l .loop .inv .3)
 
 add-at : tie.Need-add-at Inv-loop μ-loop
-add-at c = omega (arith, bounds (c .before .before .before .before .before))
+add-at c = omega (arith, found (c .before .before .before .before .before))
 
 enum-told : tie.Need-enum-told Inv-loop μ-loop
 enum-told c = search needs
@@ -104,11 +101,11 @@ loop-again c =
     let last = v .place-value .last .1 .0 in
     let q = ap (λ b. onlyIf b (take (2 * (a .args .p + l .loop .i + 1)) last)) (sym (not-false (v .place-value .result) (c .if1 .left))) ∙ v .place-value .ensures in
     let j : a .args .p + l .loop .i + 1 ≡ a .args .p + (l .loop .i + 1) = omega arith in (
-      omega (arith, bounds k),
+      omega (arith, found k),
       omega arith,
       v .place-value .kept .1 .0 ∙ l .loop .inv .2,
       l .loop .inv .3
-          ∙ line-go _ _ _ _ (read (take (2 * (a .args .p + l .loop .i)) (l .loop .t))) (found k) (omega arith) q
+          ∙ line-go _ _ _ _ (read (take (2 * (a .args .p + l .loop .i)) (l .loop .t))) (found k .is) (omega arith) q
           ∙ ap (λ m. then (read (take (2 * m) last)) (values (a .args .n - (l .loop .i + 1)) (parts 59 (drop (k .before .e .given .0 .0 + 1) (a .args .line .now))))) j,
     )
 

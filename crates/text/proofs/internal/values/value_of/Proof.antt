@@ -1,16 +1,15 @@
 use mathlib.Core.Path.{sym, _∙_}
-use Prim.Native.Nat.{_<_}
 use native.Mathlib.Omega.{arith}
 use borrow.Author.Needs.{needs}
-use lib.ListN.{length}
 use lib.Seq.{length-take-le}
+use Rattle.text.proofs.Parts.{FirstAt, first-at}
 use Rattle.text.proofs.Values.{value-none, value-ends}
 use Rattle.text.proofs.internal.values.value_of.Statement.{statement}
 use Rattle.text.proofs.internal.values.value_of.Tie as tie
 
 -- the ':' stands in the field
-found : (a : tie.After-c) → a .c .given .0 .0 < length (a .before .before .before .before .args .field .now)
-found a = rw (a .c .given .1) at (a .before .before .search .ensures .1) .1
+found : (a : tie.After-c) → FirstAt (a .before .before .before .before .args .field .now) 0 58 (a .c .given .0 .0)
+found a = first-at (a .before .before .search .ensures) (a .c .given .1)
 
 search-requires : tie.Need-search-requires
 search-requires c κs = search needs
@@ -50,7 +49,7 @@ returns c =
     let two = c .before in
     let one = two .before .before in
     let d = one .before .before .before in
-    value-ends _ _ _ (sym (d .before .before .search .ensures .0) ∙ d .c .given .1) (one .number-of .ensures) (two .number-of2 .ensures) (c .both-ends .ensures)
+    value-ends _ _ _ (found d .is) (one .number-of .ensures) (two .number-of2 .ensures) (c .both-ends .ensures)
 
 returns-2 : tie.Need-returns-2
 returns-2 c = value-none _ (sym (c .before .before .search .ensures .0) ∙ c .enum-told .given .1)
