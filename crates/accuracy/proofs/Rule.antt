@@ -3,6 +3,7 @@ use mathlib.Core.List.{List}
 use Prim.Native.Nat.{ℕ}
 use native.Mathlib.Omega.{arith}
 use lib.IntN.{ℤ, pos, _-ℤ_, _*ℤ_, *ℤ-comm}
+use lib.ListN.{length}
 use lib.Signed.{_≤ℤ_, _<ℤ_}
 use Rattle.integer.proofs.Linear.{linear, over}
 use Rattle.integer.proofs.Order.{also, prod, lt-le}
@@ -10,6 +11,7 @@ use Rattle.interval.specs.declared.Interval.{Interval}
 use Rattle.fraction.specs.Fraction.{Fraction, Inside}
 use Rattle.inputs.specs.Place.{at}
 use Rattle.inputs.specs.Tests.{System}
+use Rattle.elimination.proofs.Accepted.{accepted-A, accepted-B}
 use Rattle.sweep.specs.Calls.{Call, changes}
 use Rattle.accuracy.specs.Solution.{Solution, InBox, balanceOf}
 use Rattle.accuracy.specs.Claim.{Start, lent, fromB, fromA, Covered, OffBy, width, Bounded, Accuracy}
@@ -35,8 +37,8 @@ held h = record { inside = h; close = λ j k y i. off-by (h .each j k) i }
 begins : (s : System) (X : List ℤ) (start : Start s X) (x : ℕ → Fraction) → Solution s x → Covered start x → InBox (s .size) X x
 unfolding balanceOf
 begins s X lent x sol m = m
-begins s X (fromB l e) x sol m = over-B s l X e x sol
-begins s X (fromA a l f e) x sol m = rw f (over-A a l X e x (rw f at sol))
+begins s X (fromB box e) x sol m = over-B s (length box) X (accepted-B s box (e .returned) (e .left)) x sol
+begins s X (fromA a box f e) x sol m = rw f (over-A a (length box) X (accepted-A a box (e .returned) (e .left)) x (rw f at sol))
 
 pub accuracy : (s : System) (X : List ℤ) (start : Start s X) (calls : List Call) → Accuracy s X start calls
 accuracy s X start calls =

@@ -4,28 +4,35 @@ use mathlib.Core.List.{List, [], _∷_}
 use Prim.Native.Nat.{ℕ, _<_}
 use lib.Dec.{T}
 use lib.IntN.{ℤ, _-ℤ_, _*ℤ_}
+use lib.ListN.{length}
 use lib.Signed.{_≤ℤ_}
+use Rattle.outcome.specs.Table.{paper}
 use Rattle.interval.specs.declared.Interval.{Interval}
 use Rattle.fraction.specs.Fraction.{Fraction, Inside}
 use Rattle.fraction.specs.Meaning.{Contains}
 use Rattle.inputs.specs.Place.{at}
 use Rattle.inputs.specs.Tests.{System}
-use Rattle.elimination.specs.Run.{done}
-use Rattle.elimination.specs.Call.{overA, overB}
+use Rattle.elimination.specs.Run.{Run}
+use Rattle.elimination.specs.Call.{overA, overB, outcomeOf, boxAfter}
 use Rattle.sweep.specs.Calls.{Call, Change, changes, anyEmpty}
 use Rattle.accuracy.specs.Solution.{Solution, InBox, balanceOf}
 
--- 'It begins with the box that elimination wrote, or with any box that the caller lends'; elimination accepted if it returned 0
+-- 'Elimination accepted if it returned 0': an elimination call that was lent this box did so, and left X in it
+pub record Accepted (call : (boxLength : ℕ) → Run) (box X : List ℤ) : Type 0 where
+  pub returned : paper (outcomeOf (call (length box))) .number ≡ 0
+  pub left : X ≡ boxAfter (call (length box)) box
+
+-- 'It begins with the box that elimination wrote, or with any box that the caller lends'
 pub data Start (s : System) (X : List ℤ) : Type 0 where
   lent : Start s X
-  fromB : (boxLength : ℕ) → overB s boxLength ≡ done X → Start s X
-  fromA : (a : System) (boxLength : ℕ) → s ≡ balanceOf a → overA a boxLength ≡ done X → Start s X
+  fromB : (box : List ℤ) → Accepted (overB s) box X → Start s X
+  fromA : (a : System) (box : List ℤ) → s ≡ balanceOf a → Accepted (overA a) box X → Start s X
 
 -- the solutions that the rule speaks of: those in a box that the caller lends, and all after an elimination
 abbrev pub Covered : {s : System} {X : List ℤ} → Start s X → (ℕ → Fraction) → Type 0
 Covered {s} {X} lent x = InBox (s .size) X x
-Covered (fromB l e) x = Unit {0}
-Covered (fromA a l f e) x = Unit {0}
+Covered (fromB box e) x = Unit {0}
+Covered (fromA a box f e) x = Unit {0}
 
 -- a and y are apart by at most w units
 pub record OffBy (w : ℤ) (a y : Fraction) : Type 0 where

@@ -7,3 +7,4 @@ pub mod Formed
 pub mod Forward
 pub mod Back
 pub mod Call
+pub mod Accepted

@@ -1,0 +1,157 @@
+-- A call that returns 0 has gone to its end: nothing in its tests or in its calculation stops it with that number.
+use mathlib.Core.Path.{_≡_, sym, ap, _∙_, subst}
+use mathlib.Core.Bool.{Bool, true, false, cond}
+use mathlib.Core.List.{List, [], _∷_}
+use Prim.Native.Nat.{ℕ, zero, suc, _+_}
+use borrow.Author.Tests.{eq-eqb}
+use lib.Dec.{T, eqb}
+use lib.IntN.{ℤ}
+use lib.ListN.{length}
+use Rattle.outcome.specs.declared.Outcome.{Outcome}
+use Rattle.outcome.specs.Table.{paper}
+use Rattle.interval.specs.declared.Interval.{Interval}
+use Rattle.inputs.specs.declared.Test.{Test}
+use Rattle.inputs.specs.declared.Test.the-variants.{Pass, Fail}
+use Rattle.inputs.specs.Tests.{System, both, need, sized, Slice, lengths, proper, Part, allProper, sizes}
+use Rattle.rows.specs.Sum.{RowSum}
+use Rattle.elimination.specs.Run.{Run, stop, done, andThen, inRangeThen}
+use Rattle.elimination.specs.Forward.{pivoted, columns, rightSide, rows, pivots, forward}
+use Rattle.elimination.specs.Back.{back}
+use Rattle.elimination.specs.Formed.{formedRow, formedRows}
+use Rattle.elimination.specs.Call.{solved, tests, tested, overA, overB, outcomeOf, boxAfter}
+
+-- ---- where a run stops, its number is not 0. It is a record so that a search goes by the parts of the run and computes none of them
+abbrev Refused : Outcome → Type 0
+Refused o = eqb (paper o .number) 0 ≡ false
+
+abbrev OnRun : Run → Type 0
+OnRun (stop o) = Refused o
+OnRun (done t) = Unit
+
+record Refuses (r : Run) : Type 0 where
+  where-stopped : OnRun r
+
+refuses-done : (t : List ℤ) → Refuses (done t)
+refuses-done t = record { where-stopped = tt }
+
+refuses-stop : (o : Outcome) → Refused o → Refuses (stop o)
+refuses-stop o h = record { where-stopped = h }
+
+refuses-cond : (b : Bool) (q r : Run) → Refuses q → Refuses r → Refuses (cond b q r)
+refuses-cond true q r h k = h
+refuses-cond false q r h k = k
+
+refuses-then : (r : Run) (f : List ℤ → Run) → Refuses r → ((t : List ℤ) → Refuses (f t)) → Refuses (andThen r f)
+unfolding andThen
+refuses-then (stop o) f h k = refuses-stop o (h .where-stopped)
+refuses-then (done t) f h k = k t
+
+refuses-range : (row : ℕ) (v : Interval) (f : Interval → Run) → ((w : Interval) → Refuses (f w)) → Refuses (inRangeThen row v f)
+unfolding inRangeThen
+refuses-range row v f h = search (refuses-cond, refuses-stop, h)
+
+ruleset parts = (refuses-done, refuses-stop, refuses-cond, refuses-then, refuses-range)
+
+-- ---- each part of the calculation, from the parts that it is made of
+refuses-columns : (n k i : ℕ) (m : Interval) (d j : ℕ) (t : List ℤ) → Refuses (columns n k i m d j t)
+unfolding columns
+refuses-columns n k i m zero j t = search parts
+refuses-columns n k i m (suc d) j t = search (parts, refuses-columns n k i m d)
+
+refuses-rightSide : (n k i : ℕ) (m : Interval) (t : List ℤ) → Refuses (rightSide n k i m t)
+unfolding rightSide
+refuses-rightSide n k i m t = search parts
+
+refuses-rows : (n k : ℕ) (pivot : Interval) (d i : ℕ) (t : List ℤ) → Refuses (rows n k pivot d i t)
+unfolding rows
+refuses-rows n k pivot zero i t = search parts
+refuses-rows n k pivot (suc d) i t = search (parts, refuses-columns, refuses-rightSide, refuses-rows n k pivot d)
+
+refuses-pivoted : (n k : ℕ) (t : List ℤ) → Refuses (pivoted n k t)
+unfolding pivoted
+refuses-pivoted n k t = search parts
+
+refuses-pivots : (n d k : ℕ) (t : List ℤ) → Refuses (pivots n d k t)
+unfolding pivots
+refuses-pivots n zero k t = search parts
+refuses-pivots n (suc d) k t = search (parts, refuses-pivoted, refuses-rows, refuses-pivots n d)
+
+refuses-back : (sum : RowSum) (n i : ℕ) (t : List ℤ) → Refuses (back sum n i t)
+unfolding back
+refuses-back sum n zero t = search parts
+refuses-back sum n (suc i) t = search (parts, refuses-back sum n i)
+
+refuses-formedRow : (n i d j : ℕ) (t : List ℤ) → Refuses (formedRow n i d j t)
+unfolding formedRow
+refuses-formedRow n i zero j t = search parts
+refuses-formedRow n i (suc d) j t = search (parts, refuses-formedRow n i d)
+
+refuses-formedRows : (n d i : ℕ) (t : List ℤ) → Refuses (formedRows n d i t)
+unfolding formedRows
+refuses-formedRows n zero i t = search parts
+refuses-formedRows n (suc d) i t = search (parts, refuses-formedRow, refuses-formedRows n d)
+
+refuses-solved : (sum : RowSum) (n : ℕ) (t : List ℤ) → Refuses (solved sum n t)
+unfolding solved forward
+refuses-solved sum n t = search (parts, refuses-pivots, refuses-back)
+
+-- ---- the tests, in the same way
+abbrev OnTest : Test → Type 0
+OnTest Pass = Unit
+OnTest (Fail o) = Refused o
+
+record Fails (t : Test) : Type 0 where
+  where-failed : OnTest t
+
+fails-pass : Fails Pass
+fails-pass = record { where-failed = tt }
+
+fails-need : (b : Bool) (o : Outcome) → Refused o → Fails (need b o)
+unfolding need
+fails-need true o h = fails-pass
+fails-need false o h = record { where-failed = h }
+
+fails-both : (t u : Test) → Fails t → Fails u → Fails (both t u)
+unfolding both
+fails-both Pass u h k = k
+fails-both (Fail o) u h k = h
+
+ruleset checks = (fails-pass, fails-need, fails-both)
+
+fails-lengths : (ss : List Slice) → Fails (lengths ss)
+unfolding lengths
+fails-lengths [] = search checks
+fails-lengths (s ∷ ss) = fails-both _ _ (search checks) (fails-lengths ss)
+
+fails-proper : (t : List ℤ) (d p from : ℕ) → Fails (proper t d p from)
+unfolding proper
+fails-proper t zero p from = search checks
+fails-proper t (suc d) p from = search (checks, fails-proper t d)
+
+fails-allProper : (from : ℕ) (ps : List Part) → Fails (allProper from ps)
+unfolding allProper
+fails-allProper from [] = search checks
+fails-allProper from (p ∷ ps) = fails-both _ _ (search fails-proper) (fails-allProper (from + p .count) ps)
+
+fails-tests : (s : System) (l : ℕ) → Fails (tests s l)
+unfolding tests sizes sized
+fails-tests s l = search (checks, fails-lengths, fails-allProper)
+
+refuses-tested : (t : Test) (r : Run) → Fails t → Refuses r → Refuses (tested t r)
+unfolding tested
+refuses-tested Pass r h k = k
+refuses-tested (Fail o) r h k = refuses-stop o (h .where-failed)
+
+-- ---- a call that returned 0, and the box that it left
+to-end : (r : Run) (lent : List ℤ) {x : List ℤ} → Refuses r → paper (outcomeOf r) .number ≡ 0 → x ≡ boxAfter r lent → r ≡ done x
+to-end (stop o) lent h e f = absurd (subst T (sym (eq-eqb _ 0 e) ∙ h .where-stopped) tt)
+to-end (done t) lent h e f = ap done (sym f)
+
+module _ (s : System) (lent : List ℤ) {x : List ℤ} where
+  pub accepted-A : paper (outcomeOf (overA s (length lent))) .number ≡ 0 → x ≡ boxAfter (overA s (length lent)) lent → overA s (length lent) ≡ done x
+  unfolding overA
+  accepted-A = to-end (overA s (length lent)) lent (search (refuses-tested, fails-tests, refuses-solved))
+
+  pub accepted-B : paper (outcomeOf (overB s (length lent))) .number ≡ 0 → x ≡ boxAfter (overB s (length lent)) lent → overB s (length lent) ≡ done x
+  unfolding overB
+  accepted-B = to-end (overB s (length lent)) lent (search (refuses-tested, fails-tests, refuses-then, refuses-formedRows, refuses-solved))
