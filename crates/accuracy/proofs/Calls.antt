@@ -1,5 +1,5 @@
 -- Calls, and lists of calls, made of passes that keep every solution.
-use mathlib.Core.Path.{_≡_, refl, _∙_}
+use mathlib.Core.Path.{_≡_, refl, _∙_, subst}
 use mathlib.Core.Bool.{Bool, true, false, _||_}
 use mathlib.Core.List.{List, [], _∷_, _++_}
 use Prim.Native.Nat.{ℕ, zero, suc, _*_}
@@ -17,7 +17,8 @@ use Rattle.rows.specs.Sum.{singly}
 use Rattle.rows.proofs.Enclosed.{singly-encloses}
 use Rattle.sweep.specs.Pass as pass
 use Rattle.sweep.specs.Call.{Log, emptied, settled, spent, swept, after, sweeps, tests, Answer, refused, ran, tested, last, boxAfter}
-use Rattle.sweep.specs.Calls.{Call, sweepCall, answer, Change, sweepChanges, callChanges, changes, endsEmpty, saysEmpty, anyEmpty}
+use Rattle.sweep.specs.Calls.{Call, sweepCall, answer, Change, sweepChanges, callChanges, changes, saysEmpty, anyEmpty}
+use Rattle.sweep.proofs.Kept.{refused-not-empty}
 use Rattle.accuracy.specs.Claim.{Every}
 use Rattle.accuracy.proofs.Follows.{Ordered, Follows, follows-refl, follows-trans, NoSolution, earlier, OnPass, Faithful}
 use Rattle.accuracy.proofs.Sweep.{sweep-faithful}
@@ -68,9 +69,9 @@ module _ (s : System) where
       go (pass.whole true Y) f g = (f, g Y (f .as-long ∙ l))
       go (pass.whole false Y) f g = (f, tt)
 
-  -- ---- one call: where it runs, its tests passed
+  -- ---- one call: where it runs, its tests passed, and where it does not, it does not say 7
   abbrev pub OnAnswer : List ℤ → Answer → Type 0
-  OnAnswer X (refused o) = Unit {0}
+  OnAnswer X (refused o) = saysEmpty (refused o) ≡ false
   OnAnswer X (ran l) = Ordered (s .size) X × OnLog X l
 
   on-call : {p : List ℤ → pass.Pass} → Faithful s p → (k : ℕ) (X : List ℤ) → OnAnswer X (tested (tests s k X) (sweeps p k X))
@@ -79,7 +80,7 @@ module _ (s : System) where
     where
       go : (t : Test) → tests s k X ≡ t → OnAnswer X (tested t (sweeps p k X))
       go Pass e = let r = ready s k X e in (r .ordered, on-sweeps h k X (r .fitting))
-      go (Fail o) e = tt
+      go (Fail o) e = refused-not-empty s k X e
 
   pub on-answer : (c : Call) (X : List ℤ) → OnAnswer X (answer s c X)
   unfolding answer
@@ -102,7 +103,7 @@ module _ (s : System) where
   log-last spent f h = f
   log-last (swept Y l) f h = log-last l (follows-trans s f (h .0)) (h .1)
 
-  log-empty : {X₀ X : List ℤ} (l : Log) → Follows s X₀ X → OnLog X l → T (endsEmpty l) → NoSolution s X₀
+  log-empty : {X₀ X : List ℤ} (l : Log) → Follows s X₀ X → OnLog X l → T (saysEmpty (ran l)) → NoSolution s X₀
   log-empty (emptied i) f h e = earlier s f h
   log-empty settled f h e = absurd e
   log-empty spent f h e = absurd e
@@ -119,7 +120,7 @@ module _ (s : System) where
       every-append (Fine X₀) (sweepChanges l X) _ (log-changes l f (h .1)) (record { since-start = follows-trans s f g; this-step = g }, tt)
 
   answer-empty : {X₀ X : List ℤ} (a : Answer) → Follows s X₀ X → OnAnswer X a → T (saysEmpty a) → NoSolution s X₀
-  answer-empty (refused o) f h e = absurd e
+  answer-empty (refused o) f h e = absurd (subst T h e)
   answer-empty (ran l) f h e = log-empty l f (h .1) e
 
   -- ---- a list of calls, from any box that follows X₀

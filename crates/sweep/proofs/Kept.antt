@@ -1,11 +1,12 @@
--- The box that a call leaves with 0 or 9 is as long as the one that was lent, and of intervals.
-use mathlib.Core.Path.{_≡_, refl}
+-- What the number of a call tells: with 0 or 9 the box that it leaves is as long as the one that was lent, and of intervals; 7 comes from no test.
+use mathlib.Core.Path.{_≡_, refl, subst}
 use mathlib.Core.Bool.{Bool, true, false, cond, _&&_, _||_}
 use mathlib.Core.Logic.{_⊎_, inl, inr}
 use mathlib.Core.List.{List, [], _∷_}
 use Prim.Native.Nat.{ℕ, zero, suc, _+_, _*_, _≤_}
 use native.Mathlib.Omega.{arith}
 use native.Mathlib.Nat.{zero-add}
+use borrow.Author.Tests.{ne-eqb}
 use lib.Dec.{leb, eqb}
 use lib.IntN.{ℤ}
 use Rattle.outcome.specs.declared.Outcome.{Outcome}
@@ -21,8 +22,8 @@ use Rattle.inputs.proofs.Tests.{both-pass, sizes-pass}
 use Rattle.rows.specs.Sum.{singly}
 use Rattle.sweep.specs.Pass as pass
 use Rattle.sweep.specs.Pass.{component, changes, sweepFrom, sweep}
-use Rattle.sweep.specs.Call.{after, sweeps, last, allowance, tests, tested, outcomeOf, boxAfter}
-use Rattle.sweep.specs.Calls.{Call, sweepCall, answer}
+use Rattle.sweep.specs.Call.{after, sweeps, last, allowance, tests, refused, tested, outcomeOf, boxAfter}
+use Rattle.sweep.specs.Calls.{Call, sweepCall, answer, saysEmpty}
 use Rattle.sweep.specs.Code.{Ready}
 use Rattle.sweep.proofs.Tests.{ready}
 use Rattle.sweep.proofs.Pass.{ready-put}
@@ -95,6 +96,9 @@ unfolding tests sizes sized allowance
 early-tests s k x =
     early-both _ _ (early-both _ _ (early-need (leb 1 (s .size) && leb (s .size) 32) outcome.Size (omega arith, omega arith)) (early-lengths _))
     (early-both _ _ (early-need (leb 1 k && leb k 10000) outcome.Allowed (omega arith, omega arith)) (early-all _ _))
+
+pub refused-not-empty : (s : System) (k : ℕ) (x : List ℤ) {o : Outcome} → tests s k x ≡ Fail o → saysEmpty (refused o) ≡ false
+refused-not-empty s k x {o} e = let h = subst Early e (early-tests s k x) in ne-eqb (paper o .number) 7 (omega arith)
 
 -- ---- a call that said 0 or 9 has passed them
 pub answer-keeps : (s : System) (c : Call) (x : List ℤ) → (paper (outcomeOf (answer s c x)) .number ≡ 0) ⊎ (paper (outcomeOf (answer s c x)) .number ≡ 9)

@@ -22,8 +22,7 @@ use Rattle.sweep.specs.declared.internal.pass.OneSweep.the-variants.{Sto
 use Rattle.sweep.specs.declared.internal.calls.Ending.the-variants.{Emptied, Settled, Spent}
 use Rattle.sweep.specs.Pass as pass
 use Rattle.sweep.specs.Call.{Log, emptied, settled, spent, swept, sweeps, count, ending, last, tested, outcomeOf, countOf, boxAfter}
-use Rattle.sweep.specs.Calls.{endsEmpty}
-use Rattle.sweep.specs.Code.{passOf, Passed, endOf, Logged, Ran}
+use Rattle.sweep.specs.Code.{passOf, Passed, endOf, isEmptied, Logged, Ran}
 
 -- ---- what a turn does; the sweeps left are allowed − k
 module _ (p : List ℤ → pass.Pass) (allowed k : ℕ) (x : List ℤ) where
@@ -48,11 +47,10 @@ module _ (p : List ℤ → pass.Pass) (allowed k : ℕ) (x : List ℤ) where
 pub record Since (l₀ : Log) (x₀ : List ℤ) (k : ℕ) (l : Log) (x : List ℤ) : Type 0 where
   pub ending : endOf l₀ ≡ endOf l
   pub counted : count l₀ ≡ k + count l
-  pub empty : endsEmpty l₀ ≡ endsEmpty l
   pub box : (lent : List ℤ) → last l₀ lent x₀ ≡ last l lent x
 
 pub since-start : (l : Log) (x : List ℤ) → Since l x 0 l x
-since-start l x = record { ending = refl; counted = sym (zero-add (count l)); empty = refl; box = λ lent. refl }
+since-start l x = record { ending = refl; counted = sym (zero-add (count l)); box = λ lent. refl }
 
 module _ {l₀ : Log} {x₀ : List ℤ} {k : ℕ} {l : Log} {x : List ℤ} (s : Since l₀ x₀ k l x) where
   pub since-more : {l₁ : Log} {y : List ℤ} → l ≡ swept y l₁ → Since l₀ x₀ (k + 1) l₁ y
@@ -61,22 +59,21 @@ module _ {l₀ : Log} {x₀ : List ℤ} {k : ℕ} {l : Log} {x : List ℤ} (s : 
       record {
         ending = s .ending ∙ ap endOf e;
         counted = s .counted ∙ ap (λ a. k + count a) e ∙ f;
-        empty = s .empty ∙ ap endsEmpty e;
         box = λ lent. s .box lent ∙ ap (λ a. last a lent x) e;
       }
 
   -- the end of them, whichever it is
-  logged-end : {n : Ending} {y : List ℤ} → endOf l ≡ n → count l ≡ 0 → (endsEmpty l ≡ false → (lent : List ℤ) → y ≡ last l lent x) → Logged l₀ x₀ (record { ending = n; count = k }) y
+  logged-end : {n : Ending} {y : List ℤ} → endOf l ≡ n → count l ≡ 0 → (isEmptied n ≡ false → (lent : List ℤ) → y ≡ last l lent x) → Logged l₀ x₀ (record { ending = n; count = k }) y
   logged-end e f g =
       let z : k + 0 ≡ k = omega arith in
       record {
         ending = sym (s .ending ∙ e);
         count = sym (s .counted ∙ ap (λ (c : ℕ). k + c) f ∙ z);
-        box = λ h lent. g (sym (s .empty) ∙ h) lent ∙ sym (s .box lent);
+        box = λ h lent. g h lent ∙ sym (s .box lent);
       }
 
   pub logged-emptied : {i : ℕ} (y : List ℤ) → l ≡ emptied i → Logged l₀ x₀ (record { ending = Emptied i; count = k }) y
-  logged-emptied y e = logged-end (ap endOf e) (ap count e) (λ h lent. absurd (subst T (sym (ap endsEmpty e) ∙ h) tt))
+  logged-emptied y e = logged-end (ap endOf e) (ap count e) (λ h lent. absurd (subst T h tt))
 
   pub logged-settled : l ≡ settled → Logged l₀ x₀ (record { ending = Settled; count = k }) x
   logged-settled e = logged-end (ap endOf e) (ap count e) (λ h lent. sym (ap (λ a. last a lent x) e))
@@ -98,24 +95,13 @@ said (Emptied i) = outcome.Empty i
 said Settled = outcome.Done
 said Spent = outcome.Spent
 
-abbrev isEmptied : Ending → Bool
-isEmptied (Emptied i) = true
-isEmptied Settled = false
-isEmptied Spent = false
-
 ending-said : (l : Log) → ending l ≡ said (endOf l)
 ending-said (emptied i) = refl
 ending-said settled = refl
 ending-said spent = refl
 ending-said (swept y l) = ending-said l
 
-empty-ends : (l : Log) → endsEmpty l ≡ isEmptied (endOf l)
-empty-ends (emptied i) = refl
-empty-ends settled = refl
-empty-ends spent = refl
-empty-ends (swept y l) = empty-ends l
-
-empty-lent : (l : Log) (lent x : List ℤ) → endsEmpty l ≡ true → last l lent x ≡ lent
+empty-lent : (l : Log) (lent x : List ℤ) → isEmptied (endOf l) ≡ true → last l lent x ≡ lent
 empty-lent (emptied i) lent x e = refl
 empty-lent settled lent x e = absurd (subst T (sym e) tt)
 empty-lent spent lent x e = absurd (subst T (sym e) tt)
@@ -135,13 +121,13 @@ module _ {l : Log} {lent : List ℤ} {r : Sweeps} {y : List ℤ} (h : Logged l l
       record { outcome = sym (ending-said l ∙ ap said f); counted = h .count; box = g f }
 
   pub ran-emptied : {i : ℕ} → r .ending ≡ Emptied i → Ran l lent (record { outcome = outcome.Empty i; count = r .count }) lent
-  ran-emptied e = ran e (λ f. sym (empty-lent l lent lent (empty-ends l ∙ ap isEmptied f)))
+  ran-emptied e = ran e (λ f. sym (empty-lent l lent lent (ap isEmptied f)))
 
   pub ran-settled : {z : List ℤ} → r .ending ≡ Settled → z ≡ y → Ran l lent (record { outcome = outcome.Done; count = r .count }) z
-  ran-settled e g = ran e (λ f. g ∙ h .box (empty-ends l ∙ ap isEmptied f) lent)
+  ran-settled e g = ran e (λ f. g ∙ h .box (ap isEmptied e) lent)
 
   pub ran-spent : {z : List ℤ} → r .ending ≡ Spent → z ≡ y → Ran l lent (record { outcome = outcome.Spent; count = r .count }) z
-  ran-spent e g = ran e (λ f. g ∙ h .box (empty-ends l ∙ ap isEmptied f) lent)
+  ran-spent e g = ran e (λ f. g ∙ h .box (ap isEmptied e) lent)
 
 -- ---- a call, after its tests
 module _ (t : Test) (l : Log) (x : List ℤ) where

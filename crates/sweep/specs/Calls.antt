@@ -1,12 +1,14 @@
 -- Document 01, The list in demand 3: 'sweep calls on one lent box, all with the same n, B and b, each with any number of sweeps allowed'.
-use mathlib.Core.Bool.{Bool, true, false, _||_}
+use mathlib.Core.Bool.{Bool, false, _||_}
 use mathlib.Core.List.{List, [], _∷_, _++_}
 use Prim.Native.Nat.{ℕ}
+use lib.Dec.{eqb}
 use lib.IntN.{ℤ}
+use Rattle.outcome.specs.Table.{paper}
 use Rattle.inputs.specs.Tests.{System}
 use Rattle.rows.specs.Sum.{singly}
 use Rattle.sweep.specs.Pass.{sweep}
-use Rattle.sweep.specs.Call.{Log, emptied, settled, spent, swept, sweeps, tests, Answer, refused, ran, tested, last, boxAfter}
+use Rattle.sweep.specs.Call.{Log, emptied, settled, spent, swept, sweeps, tests, Answer, refused, ran, tested, last, outcomeOf, boxAfter}
 
 -- a call of the list, with its number of sweeps allowed
 pub data Call : Type 0 where
@@ -36,16 +38,9 @@ unfoldable pub changes : System → List Call → List ℤ → List Change
 changes s [] X = []
 changes s (c ∷ cs) X = callChanges (answer s c X) X ++ changes s cs (boxAfter (answer s c X) X)
 
--- a call that says 7
-abbrev pub endsEmpty : Log → Bool
-endsEmpty (emptied i) = true
-endsEmpty settled = false
-endsEmpty spent = false
-endsEmpty (swept Y l) = endsEmpty l
-
+-- ''Empty' is 7': a call that returns it, and a list with such a call
 abbrev pub saysEmpty : Answer → Bool
-saysEmpty (refused o) = false
-saysEmpty (ran l) = endsEmpty l
+saysEmpty a = eqb (paper (outcomeOf a) .number) 7
 
 unfoldable pub anyEmpty : System → List Call → List ℤ → Bool
 anyEmpty s [] X = false

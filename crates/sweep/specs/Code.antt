@@ -1,6 +1,6 @@
 -- What the functions beneath the sweep call ask of what is lent and promise each other.
 use mathlib.Core.Path.{_≡_}
-use mathlib.Core.Bool.{false}
+use mathlib.Core.Bool.{Bool, true, false}
 use mathlib.Core.List.{List}
 use Prim.Native.Nat.{ℕ, _*_, _≤_}
 use lib.IntN.{ℤ}
@@ -14,7 +14,6 @@ use Rattle.sweep.specs.declared.internal.calls.Sweeps.{Sweeps}
 use Rattle.sweep.specs.declared.Swept.{Swept}
 use Rattle.sweep.specs.Pass as pass
 use Rattle.sweep.specs.Call.{Log, emptied, settled, spent, swept, count, ending, last}
-use Rattle.sweep.specs.Calls.{endsEmpty}
 
 -- matrix, right side and box of n components, all of them intervals
 pub record Ready (n : ℕ) (m r x : List ℤ) : Type 0 where
@@ -42,11 +41,16 @@ endOf settled = Settled
 endOf spent = Spent
 endOf (swept Y l) = endOf l
 
+abbrev pub isEmptied : Ending → Bool
+isEmptied (Emptied i) = true
+isEmptied Settled = false
+isEmptied Spent = false
+
 pub record Logged (l : Log) (before : List ℤ) (r : Sweeps) (after : List ℤ) : Type 0 where
   pub ending : r .ending ≡ endOf l
   pub count : r .count ≡ count l
   -- the box, unless it was found empty; then what stands there is of no use
-  pub box : endsEmpty l ≡ false → (lent : List ℤ) → after ≡ last l lent before
+  pub box : isEmptied (r .ending) ≡ false → (lent : List ℤ) → after ≡ last l lent before
 
 -- what the call returns and leaves, from the log of its sweeps
 pub record Ran (l : Log) (lent : List ℤ) (r : Swept) (after : List ℤ) : Type 0 where
