@@ -12,9 +12,9 @@ use Rattle.fraction.specs.Fraction.{Fraction, Inside}
 use Rattle.inputs.specs.Place.{at}
 use Rattle.inputs.specs.Tests.{System}
 use Rattle.elimination.proofs.Accepted.{accepted-A, accepted-B}
-use Rattle.sweep.specs.Calls.{Call, changes}
+use Rattle.sweep.specs.Calls.{changes}
 use Rattle.accuracy.specs.Solution.{Solution, InBox, balanceOf}
-use Rattle.accuracy.specs.Claim.{Start, lent, fromB, fromA, Covered, OffBy, width, Bounded, Accuracy}
+use Rattle.accuracy.specs.Claim.{Start, lent, fromB, fromA, Covered, OffBy, width, Bounded, AccuracyRule}
 use Rattle.accuracy.proofs.Elimination.{over-A, over-B}
 use Rattle.accuracy.proofs.Follows.{follows-refl}
 use Rattle.accuracy.proofs.Calls.{every-map, list-changes, list-empty}
@@ -40,7 +40,7 @@ begins s X lent x sol m = m
 begins s X (fromB box e) x sol m = over-B s (length box) X (accepted-B s box (e .returned) (e .left)) x sol
 begins s X (fromA a box f e) x sol m = rw f (over-A a (length box) X (accepted-A a box (e .returned) (e .left)) x (rw f at sol))
 
-pub accuracy : (s : System) (X : List ℤ) (start : Start s X) (calls : List Call) → Accuracy s X start calls
+pub accuracy : AccuracyRule
 accuracy s X start calls =
     let fine = list-changes s calls (follows-refl s X) in
     record {

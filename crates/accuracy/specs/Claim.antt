@@ -65,3 +65,7 @@ pub record Accuracy (s : System) (X : List ℤ) (start : Start s X) (calls : Lis
   pub empty-only : T (anyEmpty s calls X) → (x : ℕ → Fraction) → Solution s x → InBox (s .size) X x → ⊥
   -- no sweep and no call widens a bound
   pub never-wider : Every (λ c. Narrowed (s .size) (c .before) (c .after)) (changes s calls X)
+
+-- 'a single claim about the list, of any length': it holds for every balance, every box to begin with and every list of calls
+abbrev pub AccuracyRule : Type 0
+AccuracyRule = (s : System) (X : List ℤ) (start : Start s X) (calls : List Call) → Accuracy s X start calls

@@ -1,15 +1,17 @@
 -- The hull of a set of fractions from its lower end alone: an upper end is a lower end of the opposites.
+use mathlib.Core.Logic.{⊎-elim}
 use native.Mathlib.Omega.{arith}
-use lib.IntN.{ℤ, pos, negℤ, _+ℤ_, _-ℤ_, _*ℤ_}
-use lib.Signed.{_≤ℤ_, _<ℤ_}
+use lib.IntN.{ℤ, pos, negℤ, _+ℤ_, _*ℤ_}
+use lib.Signed.{_≤ℤ_, _<ℤ_, clashℤ}
 use Rattle.integer.specs.Rounding.{floorDiv}
 use Rattle.integer.proofs.Linear.{linear, over}
-use Rattle.integer.proofs.Order.{whole-below}
+use Rattle.integer.proofs.Order.{lt-or-ge, whole-below}
 use Rattle.integer.proofs.Rounding.{floor-high}
 use Rattle.interval.specs.declared.Interval.{Interval}
+use Rattle.interval.specs.Interval.{ends}
 use Rattle.interval.specs.Code.{negated}
 use Rattle.fraction.specs.Fraction.{Fraction, Inside, Operation}
-use Rattle.fraction.specs.Meaning.{Result, Holds, Tight, Narrowest, Hull}
+use Rattle.fraction.specs.Meaning.{Result, Holds, Narrowest, Hull}
 use Rattle.fraction.proofs.Inside.{opposite, opposite-opposite, negated-negated, inside-negated, to-above, in-order}
 
 pub result : {R : Operation} {x y : Interval} {a b c : Fraction} → Inside x a → Inside y b → R a b c → Result R x y c
@@ -55,20 +57,6 @@ module _ {P : Fraction → Type 0} {v : Interval} (h : Ends P v) where
   holds c p =
       record { low = h .lower .bound c p; high = to-above (v .hi) (c .num) (c .den) (h .upper .bound (opposite c) (rw (opposite-opposite c) p)) }
 
-  tight : Tight P v
-  tight =
-      record {
-        low = h .lower .near .at;
-        low-in = h .lower .near .at-in;
-        low-near = h .lower .near .below;
-        high = opposite (h .upper .near .at);
-        high-in = h .upper .near .at-in;
-        high-near = turn (v .hi) (h .upper .near .at .num) (h .upper .near .at .den) (h .upper .near .below);
-      }
-    where
-      turn : (k p q : ℤ) → p <ℤ ((negℤ k +ℤ pos 1) *ℤ q) → ((k -ℤ pos 1) *ℤ q) <ℤ negℤ p
-      turn = over 3 _ (λ ρ. simp (linear, ρ) (omega arith))
-
   narrowest : Narrowest P v
   narrowest w f =
       record {
@@ -82,18 +70,23 @@ module _ {P : Fraction → Type 0} {v : Interval} (h : Ends P v) where
       turn : (k p q : ℤ) → negℤ p ≤ℤ (k *ℤ q) → (negℤ k *ℤ q) ≤ℤ p
       turn = over 3 _ (λ ρ. simp linear (omega arith))
 
--- a result shows by its operands that x and y have their ends in sequence, so the first part needs no more than the others
+-- a result shows by its operands that x and y have their ends in sequence, so the first part needs no more than the second
 pub hull : {R : Operation} {x y v : Interval} → (x .lo ≤ℤ x .hi → y .lo ≤ℤ y .hi → Ends (Result R x y) v) → Hull R x y v
 hull f =
     record {
       holds = λ c r. holds (f (in-order (r .left-in)) (in-order (r .right-in))) c r;
-      tight = λ h k. tight (f h k);
       narrowest = λ h k. narrowest (f h k);
     }
 
--- what holds a result has its ends in sequence
+-- the narrowest interval has its ends in sequence: else it would hold no result, and a narrower one would hold as many
 pub hull-order : {R : Operation} {x y v : Interval} → Hull R x y v → x .lo ≤ℤ x .hi → y .lo ≤ℤ y .hi → v .lo ≤ℤ v .hi
-hull-order f h k = in-order (f .holds _ (f .tight h k .low-in))
+hull-order {v = v} f h k = ⊎-elim (λ (n : v .hi <ℤ v .lo). narrower n) (λ g. g) (lt-or-ge (v .hi) (v .lo))
+  where
+    never : (l : ℤ) → (l +ℤ pos 1) ≤ℤ l → ⊥
+    never = over 1 _ (λ ρ. simp (linear, ρ) (omega arith))
+
+    narrower : v .hi <ℤ v .lo → v .lo ≤ℤ v .hi
+    narrower n = absurd (never (v .lo) (f .narrowest h k (ends (v .lo +ℤ pos 1) (v .hi)) (λ c r. clashℤ n (in-order (f .holds c r))) .low))
 
 -- ---- an upper end from a lower end
 pub upper-of : {P Q : Fraction → Type 0} {k : ℤ} → ((c : Fraction) → P c → Q (opposite c)) → ((c : Fraction) → Q c → P (opposite c)) → Lower Q k →

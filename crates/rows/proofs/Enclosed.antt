@@ -11,7 +11,7 @@ use Rattle.fraction.proofs.Sum.{sum-inside}
 use Rattle.fraction.proofs.Product.{product-inside}
 use Rattle.inputs.specs.Place.{at}
 use Rattle.rows.specs.Sum.{summed, singly}
-use Rattle.rows.specs.Exact.{exactRow, Encloses}
+use Rattle.rows.specs.Exact.{exactRow, SinglyEncloses}
 
 module _ (m : List ℤ) (p : ℕ) (x : List ℤ) (q : ℕ) (c w : ℕ → Fraction) where
   summed-inside : (d j : ℕ) (v : Interval) (a : Fraction) → ((i : ℕ) → i < j + d → Inside (at m (p + i)) (c i)) → ((i : ℕ) → i < j + d → Inside (at x (q + i)) (w i)) →
@@ -22,7 +22,7 @@ module _ (m : List ℤ) (p : ℕ) (x : List ℤ) (q : ℕ) (c w : ℕ → Fracti
       summed-inside d (j + 1) _ _ (λ t l. h t (omega arith)) (λ t l. k t (omega arith))
       (sum-inside i (product-inside millionths (h j (omega arith)) (k j (omega arith))))
 
-pub singly-encloses : Encloses singly
+pub singly-encloses : SinglyEncloses
 unfolding singly
 singly-encloses =
     record { holds = λ m p x q d c w h k. summed-inside m p x q c w d 0 _ _ (λ i l. h i (omega arith)) (λ i l. k i (omega arith)) (low-end (≤ℤ-refl _)) }

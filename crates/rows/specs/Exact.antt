@@ -5,7 +5,7 @@ use lib.IntN.{ℤ, pos}
 use lib.Signed.{ltZ-yes}
 use Rattle.fraction.specs.Fraction.{Fraction, Inside, millionths, sum, productAt}
 use Rattle.inputs.specs.Place.{at}
-use Rattle.rows.specs.Sum.{RowSum}
+use Rattle.rows.specs.Sum.{RowSum, singly}
 
 abbrev pub nought : Fraction
 nought = record { num = pos 0; den = pos 1; above = ltZ-yes tt }
@@ -22,3 +22,7 @@ pub record Encloses (f : RowSum) : Type 0 where
       → ((j : ℕ) → j < d → Inside (at m (p + j)) (c j))
       → ((j : ℕ) → j < d → Inside (at x (q + j)) (w j))
       → Inside (f m p x q d) (exactRow c w d 0 nought)
+
+-- 'the row-sum facts once for any n': the sum of singly rounded products does
+abbrev pub SinglyEncloses : Type 0
+SinglyEncloses = Encloses singly

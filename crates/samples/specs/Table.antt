@@ -129,7 +129,11 @@ table =
     ∷ sweeps input 3 startsApart (record { number = 7; place = 1; count = 0; bounds = startsApart })
     ∷ []
 
--- the one claim: each line's calculation is what the paper lists
-abbrev pub Agrees : List Line → Type 0
-Agrees [] = Unit {0}
-Agrees (l ∷ ls) = (l .calculated ≡ l .listed) × Agrees ls
+-- in each line the calculation gives what the paper lists
+abbrev EachAgrees : List Line → Type 0
+EachAgrees [] = Unit {0}
+EachAgrees (l ∷ ls) = (l .calculated ≡ l .listed) × EachAgrees ls
+
+-- the one claim, about the whole table
+abbrev pub Agrees : Type 0
+Agrees = EachAgrees table
