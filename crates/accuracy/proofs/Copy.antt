@@ -1,6 +1,6 @@
 -- What stands where: in the working copy, in the box that is written, in the balance of a system that holds A and f.
 use mathlib.Core.Path.{_≡_, refl, ap, _∙_}
-use mathlib.Core.List.{List, _∷_, _++_}
+use mathlib.Core.List.{List, _∷_}
 use Prim.Native.Nat.{ℕ, zero, suc, _+_, _*_, _/_, _%_, _<_}
 use native.Mathlib.Omega.{arith}
 use native.Mathlib.Nat.{zero-add, mul-add-div-right, div-eq-of-lt, mul-add-mod-self-right, mod-eq-of-lt}

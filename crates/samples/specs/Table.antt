@@ -9,7 +9,7 @@ use Rattle.interval.specs.Answer.{Answer, sumAnswer, productAnswer, quotientAns
 use Rattle.outcome.specs.Table.{paper}
 use Rattle.inputs.specs.Tests.{System}
 use Rattle.inputs.specs.Place.{at}
-use Rattle.elimination.specs.Run.{Run, stop, done, andThen, cell}
+use Rattle.elimination.specs.Run.{Run, done, andThen, cell}
 use Rattle.elimination.specs.Forward.{forward}
 use Rattle.elimination.specs.Call.{copied, overA, overB, outcomeOf, boxAfter}
 use Rattle.sweep.specs.Call as sweep

@@ -8,7 +8,7 @@ ghost use mathlib.Core.Path.{_≡_};
 ghost use Rattle.outcome.specs.Table.{paper};
 ghost use Rattle.inputs.specs.Tests.{system};
 ghost use Rattle.sweep.specs.Call.{outcomeOf, countOf, boxAfter};
-ghost use Rattle.sweep.specs.Calls.{Call, sweepCall, answer};
+ghost use Rattle.sweep.specs.Calls.{sweepCall, answer};
 
 // What a sweep call returns: its outcome and the number of whole sweeps done.
 pub struct Swept {

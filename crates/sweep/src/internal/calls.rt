@@ -4,7 +4,7 @@ use crate::internal::pass::sweep_once;
 use inputs::internal::copy::copy_out;
 use outcome::Outcome;
 ghost use mathlib.Core.Path.{_≡_};
-ghost use Prim.Native.Nat.{_+_, _*_, _≤_};
+ghost use Prim.Native.Nat.{_*_, _≤_};
 ghost use lib.ListN.{length};
 ghost use Rattle.inputs.specs.declared.Test.the-variants.{Pass};
 ghost use Rattle.inputs.specs.Tests.{system};

@@ -3,8 +3,7 @@ use inputs::internal::intervals;
 use inputs::internal::size_and_lengths;
 use outcome::Outcome;
 ghost use mathlib.Core.Path.{_≡_};
-ghost use Prim.Native.Nat.{ℕ};
-ghost use Rattle.inputs.specs.Tests.{system, need};
+ghost use Rattle.inputs.specs.Tests.{system};
 ghost use Rattle.sweep.specs.Call.{allowance, tests};
 
 // Test 4, of the sweeps allowed.

@@ -1,10 +1,9 @@
-use mathlib.Core.Path.{_≡_, refl, sym, ap, _∙_}
-use Prim.Native.Nat.{_-_, _≤_, _+_}
+use mathlib.Core.Path.{refl, sym, _∙_}
+use Prim.Native.Nat.{_-_, _≤_}
 use native.Mathlib.Omega.{arith}
 use native.Mathlib.Nat.{sub-zero}
 use borrow.Author.Needs.{needs}
 use borrow.Author.Tests.{not-true, not-false}
-use lib.ListN.{length}
 use Rattle.inputs.specs.Tests.{system}
 use Rattle.rows.specs.Sum.{singly}
 use Rattle.sweep.specs.Pass.{sweep}
@@ -14,9 +13,6 @@ use Rattle.sweep.proofs.Pass.{ready-after}
 use Rattle.sweep.proofs.Log.{sweeps-spent, sweeps-emptied, sweeps-settled, sweeps-go, Since, since-start, since-more, logged-emptied, logged-settled, logged-spent, was-stopped, was-whole}
 use Rattle.sweep.proofs.internal.calls.repeat.Statement.{statement}
 use Rattle.sweep.proofs.internal.calls.repeat.Tie as tie
-use Rattle.sweep.proofs.internal.calls.repeat.Reads as reads
-use Rattle.sweep.proofs.internal.calls.repeat.Lts as lts
-use Rattle.sweep.proofs.internal.pass.sweep_once.Reads as sweep-once-reads
 
 abbrev Inv-loop : tie.InvT-loop
 Inv-loop n m r x₀ allowed count₀ x count =

@@ -1,8 +1,8 @@
-use mathlib.Core.Path.{_≡_, sym, ap₂, _∙_}
+use mathlib.Core.Path.{ap₂, _∙_}
 use Prim.Native.Nat.{_+_, _*_, _≤_}
 use native.Mathlib.Omega.{arith}
 use borrow.Author.Needs.{needs}
-use Rattle.interval.specs.Interval.{exactSum, intersection}
+use Rattle.interval.specs.Interval.{intersection}
 use Rattle.inputs.proofs.Tests.{rows-apart, square}
 use Rattle.sweep.proofs.Pass.{component-is, component-fits}
 use Rattle.sweep.proofs.internal.pass.component.Statement.{statement}

@@ -2,7 +2,7 @@ use mir.Syntax.{w64}
 use mir.Val.{SFits}
 use mir.ValLaws.{toZ-ofZ}
 use borrow.Author.Needs.{needs}
-use Rattle.sweep.specs.Pass.{changes}
+use Rattle.sweep.specs.Pass.{moves}
 use Rattle.sweep.proofs.internal.pass.moved.Statement.{statement}
 use Rattle.sweep.proofs.internal.pass.moved.Tie as tie
 
@@ -10,7 +10,7 @@ returns : tie.Need-returns
 returns c = search needs
 
 returns-2 : tie.Need-returns-2
-unfolding changes
+unfolding moves
 returns-2 c =
     let s = c .before .before .before .before .before in
     let a = s .before .args in
@@ -19,7 +19,7 @@ returns-2 c =
     rw (s .if1 .left, rw (toZ-ofZ w64 (a .old .lo) l, toZ-ofZ w64 (a .new .lo) h) at (c .if2 .taken))
 
 returns-3 : tie.Need-returns-3
-unfolding changes
+unfolding moves
 returns-3 c =
     let i = c .before .before .before .before in
     let s = i .before .before .before .before .before in

@@ -1,11 +1,9 @@
-use mathlib.Core.Path.{_≡_, refl, sym, ap, _∙_}
-use mathlib.Core.Bool.{true, false}
+use mathlib.Core.Path.{_≡_, sym, _∙_}
+use mathlib.Core.Bool.{false}
 use Prim.Native.Nat.{_-_, _≤_}
 use native.Mathlib.Omega.{arith}
 use native.Mathlib.Nat.{sub-zero}
 use borrow.Author.Needs.{needs}
-use lib.ListN.{length}
-use Rattle.interval.specs.Interval.{isEmpty}
 use Rattle.inputs.specs.Tests.{system}
 use Rattle.rows.specs.Sum.{singly}
 use Rattle.sweep.specs.Pass.{component, sweepFrom, sweep}
