@@ -24,7 +24,7 @@ use Rattle.inputs.proofs.Place.{length-put, at-put-same, at-put-other}
 use Rattle.rows.specs.Sum.{RowSum}
 use Rattle.rows.specs.Exact.{nought, exactRow, Encloses}
 use Rattle.sweep.proofs.Pass.{not-empty}
-use Rattle.sweep.specs.Pass.{Pass, stopped, component, moves, sweepFrom, sweep}
+use Rattle.sweep.specs.Pass.{Pass, stopped, component, differs, sweepFrom, sweep}
 use Rattle.accuracy.specs.Solution.{Solution, InBox}
 use Rattle.accuracy.proofs.Common.{same-trans}
 use Rattle.accuracy.proofs.Follows.{contains-refl, Follows, follows-refl, follows-trans, earlier, OnPass, Faithful}
@@ -111,13 +111,13 @@ module _ (sum : RowSum) (encloses : Encloses sum) (s : System) where
   from-follows (suc d) i c {X₀} {X} e l f =
       go (isEmpty v) refl (λ q.
       let g = put-follows X i (omega arith) l q in
-      from-follows d (i + 1) (c || moves (at X i) v) (omega arith) (g .as-long ∙ l) (follows-trans s f g))
+      from-follows d (i + 1) (c || differs (at X i) v) (omega arith) (g .as-long ∙ l) (follows-trans s f g))
     where
       v : Interval
       v = component sum s X i
 
       rest : Pass
-      rest = sweepFrom sum s d (i + 1) (c || moves (at X i) v) (put X i v)
+      rest = sweepFrom sum s d (i + 1) (c || differs (at X i) v) (put X i v)
 
       go : (t : Bool) → isEmpty v ≡ t → (isEmpty v ≡ false → OnPass s X₀ rest) → OnPass s X₀ (cond t (stopped (i + 1)) rest)
       go true q g = earlier s f (λ x sol k. held-not-empty q (component-inside X i (omega arith) x sol k))

@@ -12,6 +12,7 @@ use Rattle.interval.specs.declared.Interval.{Interval}
 use Rattle.fraction.specs.Meaning.{Contains}
 use Rattle.inputs.specs.Place.{at}
 use Rattle.inputs.specs.Tests.{System}
+use Rattle.sweep.specs.Pass.{differs}
 use Rattle.sweep.specs.Call.{Log, emptied, settled, spent, swept}
 use Rattle.accuracy.specs.Claim.{width, Narrowed}
 use Rattle.accuracy.specs.Beside.{differ, changing, widths, FewChanges}
@@ -31,13 +32,10 @@ widths-above {X = X} o (suc d) j h = go (at X j .lo) (at X j .hi) (widths X d (j
 abbrev one : Bool → ℤ
 one b = pos (cond b 1 0)
 
--- v and w have not the same ends, as `differ` tests it
-abbrev unlike : Interval → Interval → Bool
-unlike v w = (ltZ (v .lo) (w .lo) || ltZ (w .lo) (v .lo)) || (ltZ (v .hi) (w .hi) || ltZ (w .hi) (v .hi))
-
 -- an end of w that is not v's has moved inward, and w is then narrower by a unit at least
 module _ {v w : Interval} (h : Contains v w) where
-  moved : (width w +ℤ one (unlike v w)) ≤ℤ width v
+  moved : (width w +ℤ one (differs v w)) ≤ℤ width v
+  unfolding differs
   moved = go (ltZ (v .lo) (w .lo)) refl (ltZ (w .lo) (v .lo)) refl (ltZ (v .hi) (w .hi)) refl (ltZ (w .hi) (v .hi)) refl
     where
       by-low : (a b c d : ℤ) → a <ℤ c → d ≤ℤ b → (d -ℤ c +ℤ pos 1) ≤ℤ (b -ℤ a)
@@ -62,7 +60,7 @@ widths-less : {n : ℕ} {X Y : List ℤ} → Narrowed n X Y → (d j : ℕ) → 
 unfolding widths differ
 widths-less h zero j l = ≤ℤ-refl (pos 0)
 widths-less {X = X} {Y} h (suc d) j l =
-    go (unlike (at X j) (at Y j)) (differ X Y d (j + 1)) (width (at X j)) (width (at Y j)) (widths X d (j + 1)) (widths Y d (j + 1))
+    go (differs (at X j) (at Y j)) (differ X Y d (j + 1)) (width (at X j)) (width (at Y j)) (widths X d (j + 1)) (widths Y d (j + 1))
     (moved (h .each j (omega arith))) (widths-less h d (j + 1) (omega arith))
   where
     go : (b c : Bool) (x y t u : ℤ) → (y +ℤ one b) ≤ℤ x → (u +ℤ one c) ≤ℤ t → (y +ℤ u +ℤ one (b || c)) ≤ℤ (x +ℤ t)

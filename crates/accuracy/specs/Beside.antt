@@ -4,11 +4,12 @@ use mathlib.Core.Bool.{Bool, false, cond, _||_}
 use mathlib.Core.List.{List, [], _∷_}
 use Prim.Native.Nat.{ℕ, zero, suc, _+_}
 use lib.IntN.{ℤ, pos, _+ℤ_}
-use lib.Signed.{_≤ℤ_, ltZ, ltZ-yes}
+use lib.Signed.{_≤ℤ_, ltZ-yes}
 use Rattle.interval.specs.Interval.{ends}
 use Rattle.fraction.specs.Fraction.{Fraction, Inside}
 use Rattle.inputs.specs.Place.{at}
 use Rattle.inputs.specs.Tests.{System}
+use Rattle.sweep.specs.Pass.{differs}
 use Rattle.sweep.specs.Call.{Log, emptied, settled, spent, swept, ran}
 use Rattle.sweep.specs.Calls.{Call, answer}
 use Rattle.accuracy.specs.Solution.{Solution, balanceOf}
@@ -17,8 +18,7 @@ use Rattle.accuracy.specs.Claim.{width}
 -- the boxes X and Y differ in an end of one of their components j, j + 1, .., d of them
 unfoldable pub differ : (X Y : List ℤ) → (d j : ℕ) → Bool
 differ X Y zero j = false
-differ X Y (suc d) j =
-    ((ltZ (at X j .lo) (at Y j .lo) || ltZ (at Y j .lo) (at X j .lo)) || (ltZ (at X j .hi) (at Y j .hi) || ltZ (at Y j .hi) (at X j .hi))) || differ X Y d (j + 1)
+differ X Y (suc d) j = differs (at X j) (at Y j) || differ X Y d (j + 1)
 
 -- how many sweeps of a call leave another box than the one before
 unfoldable pub changing : (n : ℕ) → Log → List ℤ → ℕ

@@ -26,7 +26,7 @@ use Rattle.samples.specs.Table.{Agrees}
 use Rattle.samples.specs.Sheet.{Prints}
 
 all : Agrees × Prints
-unfolding floorDiv ceilDiv minimum maximum scale lowest highest within inRange acceptable containsZero exactSum exactDifference intersection isEmpty productAt quotientAt tested ranged at put both need sized lengths sizes proper allProper summed singly andThen inRangeThen pivoted columns rightSide rows pivots forward numerator back identity formedRow formedRows call.copied call.box call.solved call.tests call.tested call.overA call.overB pass.component pass.moves pass.sweepFrom pass.sweep swept.sweeps swept.allowance swept.tests swept.tested answer firstIn firstFrom longer parts isDigit digits plain magnitude below number value then values nameByte allBytes isName same among eachName areNames text.firstLine text.headOf text.namesIn text.atEnd text.rowsFrom text.reading digitsWithin natural decimal bound further bounds settled counted calculated concluded tightened eliminated solvedIn solved sheet
+unfolding floorDiv ceilDiv minimum maximum scale lowest highest within inRange acceptable containsZero exactSum exactDifference intersection isEmpty productAt quotientAt tested ranged at put both need sized lengths sizes proper allProper summed singly andThen inRangeThen pivoted columns rightSide rows pivots forward numerator back identity formedRow formedRows call.copied call.box call.solved call.tests call.tested call.overA call.overB pass.component pass.differs pass.sweepFrom pass.sweep swept.sweeps swept.allowance swept.tests swept.tested answer firstIn firstFrom longer parts isDigit digits plain magnitude below number value then values nameByte allBytes isName same among eachName areNames text.firstLine text.headOf text.namesIn text.atEnd text.rowsFrom text.reading digitsWithin natural decimal bound further bounds settled counted calculated concluded tightened eliminated solvedIn solved sheet
 all = ((refl, (refl, (refl, (refl, (refl, (refl, (refl, (refl, (refl, (refl, (refl, (refl, (refl, (refl, (refl, (refl, tt)))))))))))))))), refl)
 
 pub agree : Agrees

@@ -21,7 +21,7 @@ use Rattle.inputs.specs.Tests.{System, system, both, need, sized, Slice, length
 use Rattle.inputs.proofs.Tests.{both-pass, sizes-pass}
 use Rattle.rows.specs.Sum.{singly}
 use Rattle.sweep.specs.Pass as pass
-use Rattle.sweep.specs.Pass.{component, moves, sweepFrom, sweep}
+use Rattle.sweep.specs.Pass.{component, differs, sweepFrom, sweep}
 use Rattle.sweep.specs.Call.{after, sweeps, last, allowance, tests, refused, tested, outcomeOf, boxAfter}
 use Rattle.sweep.specs.Calls.{Call, sweepCall, answer, saysEmpty}
 use Rattle.sweep.specs.Code.{Ready}
@@ -36,13 +36,13 @@ module _ (n : ℕ) (m r : List ℤ) where
   from-keeps : (d i : ℕ) (c : Bool) (x : List ℤ) → i + d ≡ n → Ready n m r x → OnPass (sweepFrom singly (system n m r) d i c x)
   unfolding sweepFrom
   from-keeps zero i c x e w = w
-  from-keeps (suc d) i c x e w = go (isEmpty v) refl (from-keeps d (i + 1) (c || moves (at x i) v) (put x i v) (omega arith))
+  from-keeps (suc d) i c x e w = go (isEmpty v) refl (from-keeps d (i + 1) (c || differs (at x i) v) (put x i v) (omega arith))
     where
       v : Interval
       v = component singly (system n m r) x i
 
-      go : (t : Bool) → isEmpty v ≡ t → (Ready n m r (put x i v) → OnPass (sweepFrom singly (system n m r) d (i + 1) (c || moves (at x i) v) (put x i v)))
-          → OnPass (cond t (pass.stopped (i + 1)) (sweepFrom singly (system n m r) d (i + 1) (c || moves (at x i) v) (put x i v)))
+      go : (t : Bool) → isEmpty v ≡ t → (Ready n m r (put x i v) → OnPass (sweepFrom singly (system n m r) d (i + 1) (c || differs (at x i) v) (put x i v)))
+          → OnPass (cond t (pass.stopped (i + 1)) (sweepFrom singly (system n m r) d (i + 1) (c || differs (at x i) v) (put x i v)))
       go true f k = tt
       go false f k = k (ready-put w i (omega arith) f)
 

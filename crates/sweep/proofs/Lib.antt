@@ -1,4 +1,5 @@
 pub mod Tests
+pub mod Ends
 pub mod Pass
 pub mod Log
 pub mod Kept

@@ -20,7 +20,7 @@ use Rattle.rows.specs.Sum.{RowSum, singly}
 use Rattle.rows.proofs.Size.{small-fits, sum-small, acceptable-small}
 use Rattle.rows.proofs.Sum.{singly-small}
 use Rattle.sweep.specs.Pass as pass
-use Rattle.sweep.specs.Pass.{component, moves, sweepFrom}
+use Rattle.sweep.specs.Pass.{component, differs, sweepFrom}
 use Rattle.sweep.specs.Code.{Ready}
 
 module _ (sum : RowSum) (s : System) (i : ℕ) (c : Bool) (x : List ℤ) where
@@ -32,7 +32,7 @@ module _ (sum : RowSum) (s : System) (i : ℕ) (c : Bool) (x : List ℤ) where
   unfolding sweepFrom
   sweep-stop h f = let e : s .size - i ≡ suc (s .size - (i + 1)) = omega arith in rw (e, f)
 
-  pub sweep-go : i < s .size → isEmpty (component sum s x i) ≡ false → sweepFrom sum s (s .size - i) i c x ≡ sweepFrom sum s (s .size - (i + 1)) (i + 1) (c || moves (at x i) (component sum s x i)) (put x i (component sum s x i))
+  pub sweep-go : i < s .size → isEmpty (component sum s x i) ≡ false → sweepFrom sum s (s .size - i) i c x ≡ sweepFrom sum s (s .size - (i + 1)) (i + 1) (c || differs (at x i) (component sum s x i)) (put x i (component sum s x i))
   unfolding sweepFrom
   sweep-go h f = let e : s .size - i ≡ suc (s .size - (i + 1)) = omega arith in rw (e, f)
 
@@ -77,7 +77,7 @@ module _ {n i : ℕ} {m r x : List ℤ} {v : Interval} (w : Ready n m r x) (h : 
   pub turn-stops : (c : Bool) → isEmpty v ≡ true → sweepFrom singly (system n m r) (n - i) i c x ≡ pass.stopped (i + 1)
   turn-stops c f = sweep-stop singly (system n m r) i c x h (rw e at f)
 
-  pub turn-goes : (c : Bool) {d : Bool} {o : Interval} {y : List ℤ} → isEmpty v ≡ false → o ≡ at x i → d ≡ (c || moves o v) → y ≡ put x i v →
+  pub turn-goes : (c : Bool) {d : Bool} {o : Interval} {y : List ℤ} → isEmpty v ≡ false → o ≡ at x i → d ≡ (c || differs o v) → y ≡ put x i v →
       Ready n m r y × (sweepFrom singly (system n m r) (n - i) i c x ≡ sweepFrom singly (system n m r) (n - (i + 1)) (i + 1) d y)
   turn-goes c f g p q = rw (q, p, g, e) (ready-put w i h (rw e at f), sweep-go singly (system n m r) i c x h (rw e at f))
 

@@ -19,16 +19,16 @@ pub data Pass : Type 0 where
 unfoldable pub component : RowSum → System → List ℤ → (i : ℕ) → Interval
 component sum s X i = intersection (exactSum (at (s .right) i) (sum (s .matrix) (i * s .size) X 0 (s .size))) (at X i)
 
--- an end changed; no intersection is wider than what it was taken of, so an end that changed has moved inward
-unfoldable pub moves : (old new : Interval) → Bool
-moves old new = ltZ (old .lo) (new .lo) || ltZ (new .hi) (old .hi)
+-- the two have not the same ends
+unfoldable pub differs : Interval → Interval → Bool
+differs v w = (ltZ (v .lo) (w .lo) || ltZ (w .lo) (v .lo)) || (ltZ (v .hi) (w .hi) || ltZ (w .hi) (v .hi))
 
 -- 'For i from 1 to n', 'with new, already intersected X(j) for j < i and old ones from i on': the components i, i + 1, .., d of them
 unfoldable pub sweepFrom : RowSum → System → (d i : ℕ) → Bool → List ℤ → Pass
 sweepFrom sum s zero i changed X = whole changed X
 sweepFrom sum s (suc d) i changed X =
     cond (isEmpty (component sum s X i)) (stopped (i + 1))
-    (sweepFrom sum s d (i + 1) (changed || moves (at X i) (component sum s X i)) (put X i (component sum s X i)))
+    (sweepFrom sum s d (i + 1) (changed || differs (at X i) (component sum s X i)) (put X i (component sum s X i)))
 
 unfoldable pub sweep : RowSum → System → List ℤ → Pass
 sweep sum s X = sweepFrom sum s (s .size) 0 false X

@@ -10,7 +10,7 @@ ghost use mathlib.Core.Bool.{_||_};
 ghost use Prim.Native.Nat.{_<_};
 ghost use Rattle.inputs.specs.Tests.{system};
 ghost use Rattle.rows.specs.Sum.{singly};
-ghost use Rattle.sweep.specs.Pass.{component, moves, sweep};
+ghost use Rattle.sweep.specs.Pass.{component, differs, sweep};
 ghost use Rattle.sweep.specs.Code.{Ready, Passed};
 
 // How a pass over the box ended: at an empty intersection, or whole, and whether it changed an end.
@@ -33,15 +33,15 @@ fn component(n: usize, i: usize, m: &[i64], r: &[i64], x: &[i64]) -> Interval
 
 // Whether an end was changed before, or an end of the new interval differs from the old one's.
 fn moved(earlier: bool, old: Interval, new: Interval) -> bool
-    ensures { λ r. ⌜ r ≡ (earlier || moves old new) ⌝ }
+    ensures { λ r. ⌜ r ≡ (earlier || differs old new) ⌝ }
 {
     if earlier {
         return true;
     }
-    if old.lo < new.lo {
+    if old.lo != new.lo {
         return true;
     }
-    new.hi < old.hi
+    old.hi != new.hi
 }
 
 // One sweep over x.
