@@ -11,7 +11,8 @@ use Rattle.interval.specs.declared.Interval.{Interval}
 use Rattle.interval.specs.Interval.{acceptable, containsZero, inRange, exactDifference}
 use Rattle.interval.specs.Code.{Representable}
 use Rattle.interval.proofs.Range.{accept}
-use Rattle.inputs.specs.Place.{at, Sound, put}
+use Rattle.inputs.specs.Place.{at, put}
+use Rattle.inputs.specs.Code.{Sound}
 use Rattle.inputs.proofs.Place.{at-put-other}
 use Rattle.rows.specs.Sum.{singly}
 use Rattle.rows.proofs.Size.{Small, acceptable-small, difference-small, small-fits}

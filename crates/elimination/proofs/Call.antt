@@ -13,7 +13,7 @@ use Rattle.outcome.specs.declared.Outcome.{Outcome}
 use Rattle.outcome.specs.declared.Outcome.the-variants as outcome
 use Rattle.inputs.specs.declared.Test.{Test}
 use Rattle.inputs.specs.declared.Test.the-variants.{Pass, Fail}
-use Rattle.inputs.specs.Place.{Sound}
+use Rattle.inputs.specs.Code.{Sound}
 use Rattle.inputs.specs.Tests.{system, both, sizes, proper, allProper}
 use Rattle.inputs.proofs.Tests.{both-pass, both-last, square, Fitting, sizes-pass}
 use Rattle.inputs.proofs.Place.{proper-sound, sound-append, sound-noughts}

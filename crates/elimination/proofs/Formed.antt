@@ -14,7 +14,8 @@ use Rattle.outcome.specs.declared.Outcome.the-variants as outcome
 use Rattle.interval.specs.declared.Interval.{Interval}
 use Rattle.interval.specs.Interval.{scale, lowest, highest, point, zero, one, within, inRange, acceptable, exactDifference}
 use Rattle.interval.specs.Code.{Representable}
-use Rattle.inputs.specs.Place.{at, Sound}
+use Rattle.inputs.specs.Place.{at}
+use Rattle.inputs.specs.Code.{Sound}
 use Rattle.rows.proofs.Size.{Small, acceptable-small, difference-small, small-fits}
 use Rattle.elimination.specs.Run.{stop, done, andThen, inRangeThen, cell}
 use Rattle.elimination.specs.Formed.{identity, formedRow, formedRows}

@@ -10,7 +10,8 @@ use lib.Signed.{_≤ℤ_}
 use Rattle.interval.specs.declared.Interval.{Interval}
 use Rattle.interval.specs.Interval.{containsZero, inRange}
 use Rattle.interval.proofs.Range.{accept}
-use Rattle.inputs.specs.Place.{Sound, put}
+use Rattle.inputs.specs.Place.{put}
+use Rattle.inputs.specs.Code.{Sound}
 use Rattle.inputs.proofs.Place.{sound-put}
 use Rattle.elimination.specs.declared.internal.Usable.the-variants.{Yes, No}
 use Rattle.outcome.specs.declared.Outcome.{Outcome}

@@ -8,7 +8,8 @@ use lib.ListN.{length}
 use Rattle.outcome.specs.declared.Outcome.{Outcome}
 use Rattle.interval.specs.declared.Interval.{Interval}
 use Rattle.interval.specs.Interval.{containsZero, inRange, quotient}
-use Rattle.inputs.specs.Place.{at, Sound, put}
+use Rattle.inputs.specs.Place.{at, put}
+use Rattle.inputs.specs.Code.{Sound}
 use Rattle.elimination.specs.declared.internal.Ending.{Ending}
 use Rattle.elimination.specs.declared.internal.Ending.the-variants.{Finished, Stopped}
 use Rattle.elimination.specs.declared.internal.Usable.{Usable}

@@ -13,7 +13,8 @@ use lib.Seq.{getD-set-same, getD-set-other, getD-append-add}
 use Rattle.interval.specs.declared.Interval.{Interval}
 use Rattle.interval.specs.Interval.{zero, acceptable, lowest, highest, within, inRange}
 use Rattle.interval.proofs.Range.{same-ends}
-use Rattle.inputs.specs.Place.{at, Sound, put}
+use Rattle.inputs.specs.Place.{at, put}
+use Rattle.inputs.specs.Code.{Sound}
 use Rattle.inputs.specs.declared.Test.the-variants.{Pass}
 use Rattle.inputs.specs.Tests.{proper}
 use Rattle.inputs.proofs.Tests.{proper-each}

@@ -7,7 +7,8 @@ use native.Mathlib.Nat.{zero-add}
 use lib.IntN.{ℤ}
 use Rattle.interval.specs.declared.Interval.{Interval}
 use Rattle.interval.specs.Interval.{exactSum, product, zero as zeroInterval}
-use Rattle.inputs.specs.Place.{at, Sound}
+use Rattle.inputs.specs.Place.{at}
+use Rattle.inputs.specs.Code.{Sound}
 use Rattle.rows.specs.Sum.{summed, singly}
 use Rattle.rows.proofs.Size.{Small, zero-small, sum-small, product-small}
 

@@ -5,7 +5,7 @@ use interval::internal::sum;
 ghost use mathlib.Core.Path.{_≡_};
 ghost use Prim.Native.Nat.{_+_, _*_, _≤_};
 ghost use lib.ListN.{length};
-ghost use Rattle.inputs.specs.Place.{Sound};
+ghost use Rattle.inputs.specs.Code.{Sound};
 ghost use Rattle.rows.specs.Sum.{singly};
 
 // The sum of the d products of m from position p on with x from position q on, each rounded singly.

@@ -5,7 +5,7 @@ use mathlib.Core.List.{List}
 use Prim.Native.Nat.{ℕ, _*_, _≤_}
 use lib.IntN.{ℤ}
 use lib.ListN.{length}
-use Rattle.inputs.specs.Place.{Sound}
+use Rattle.inputs.specs.Code.{Sound}
 use Rattle.sweep.specs.declared.internal.pass.OneSweep.{OneSweep}
 use Rattle.sweep.specs.declared.internal.pass.OneSweep.the-variants.{Stopped, Whole}
 use Rattle.sweep.specs.declared.internal.calls.Ending.{Ending}

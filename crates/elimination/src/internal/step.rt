@@ -10,7 +10,7 @@ ghost use Prim.Native.Nat.{_+_, _*_, _<_};
 ghost use lib.ListN.{length};
 ghost use lib.Signed.{_≤ℤ_};
 ghost use Rattle.interval.specs.Interval.{acceptable};
-ghost use Rattle.inputs.specs.Place.{Sound};
+ghost use Rattle.inputs.specs.Code.{Sound};
 ghost use Rattle.elimination.specs.Forward.{reduced};
 ghost use Rattle.elimination.specs.Code.{Placed};
 

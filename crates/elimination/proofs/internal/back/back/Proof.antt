@@ -3,7 +3,7 @@ use Prim.Native.Nat.{_≤_}
 use native.Mathlib.Omega.{arith}
 use borrow.Author.Tests.{not-true, not-false}
 use lib.ListN.{length}
-use Rattle.inputs.specs.Place.{Sound}
+use Rattle.inputs.specs.Code.{Sound}
 use Rattle.rows.specs.Sum.{singly}
 use Rattle.elimination.specs.Back.{back}
 use Rattle.elimination.specs.Code.{Pivots}

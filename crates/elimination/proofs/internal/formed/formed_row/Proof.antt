@@ -5,7 +5,7 @@ use native.Mathlib.Nat.{sub-zero}
 use borrow.Author.Needs.{needs}
 use borrow.Author.Tests.{not-true, not-false}
 use lib.ListN.{length}
-use Rattle.inputs.specs.Place.{Sound}
+use Rattle.inputs.specs.Code.{Sound}
 use Rattle.elimination.specs.Formed.{formedRow}
 use Rattle.elimination.proofs.Formed.{formedRow-end, formedRow-go, formedRow-out}
 use Rattle.elimination.proofs.Step.{working-after}

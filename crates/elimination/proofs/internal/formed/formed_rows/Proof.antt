@@ -4,7 +4,7 @@ use native.Mathlib.Omega.{arith}
 use native.Mathlib.Nat.{sub-zero}
 use borrow.Author.Needs.{needs}
 use lib.ListN.{length}
-use Rattle.inputs.specs.Place.{Sound}
+use Rattle.inputs.specs.Code.{Sound}
 use Rattle.elimination.specs.Formed.{formedRows}
 use Rattle.elimination.proofs.Formed.{formedRows-end, formedRows-go, formedRows-stop}
 use Rattle.elimination.proofs.Step.{ran-done, ran-stop, working-after}
