@@ -26,8 +26,10 @@ static Lent lent_text, lent_sheet;
 static void show_call(void)
 {
     fprintf(stderr, "sheet of %zu bytes, text of %zu bytes:\n", sheet_length, text_length);
-    fwrite(text, 1, text_length, stderr);
-    fprintf(stderr, "\n(end of the text)\n");
+    for (size_t at = 0; at < text_length; at++)
+        fprintf(stderr, text[at] == '\n' || (text[at] >= ' ' && text[at] <= '~') ? "%c" : "\\x%02x",
+                text[at]);
+    fprintf(stderr, "(end of the text)\n");
 }
 
 /* ---- from bytes to a text */

@@ -168,6 +168,21 @@ static KifwalebOutcome tested(size_t allowed)
     return (KifwalebOutcome){ KIFWALEB_DONE, 0, 0 };
 }
 
+/* Sweeps that go on for about as long as they are allowed. As long as the upper end of one vat is
+ * above 999,999, that many millionths of it, rounded up, are one unit less. */
+static void make_slow(Bytes *bytes)
+{
+    size_t vat = take(bytes) % call.n;
+    unsigned kind = take(bytes);
+    size_t changes = kind < 192 ? kind : 9996 + kind % 8;
+    int64_t *own = call.numbers[MATRIX] + 2 * (vat * call.n + vat);
+
+    memset(call.numbers, 0, sizeof call.numbers);
+    own[0] = own[1] = 999999;
+    call.numbers[BOX][2 * vat + 1] = 999999 + (int64_t)changes;
+    call.allowed = changes + take(bytes) % 4;
+}
+
 static void take_call(Bytes *bytes)
 {
     unsigned kind = take(bytes);
@@ -182,7 +197,11 @@ static void take_call(Bytes *bytes)
     }
     bytes->again = kind >> 3 & 1;
     bytes->sound = kind >> 5 != 2;
-    call.planted = 0;
+    call.planted = call.shared = 0;
+    if (kind / 8 == 2 && n >= 1 && n <= 2) {
+        make_slow(bytes);
+        return;
+    }
     for (int s = 0; s < SLICES; s++)
         take_numbers(bytes, s);
     call.shared = kind >= 240 && call.lengths[RIGHT] <= call.lengths[MATRIX];
