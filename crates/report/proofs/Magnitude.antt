@@ -12,6 +12,7 @@ use lib.Signed.{mag, ltZ, nonNeg}
 use mir.Syntax.{w64}
 use mir.Val.{Fits, SFits, ofZ, toZ}
 use mir.ValLaws.{toZ-ofZ}
+use Rattle.text.proofs.Number.{mag-turned}
 use Rattle.report.specs.Decimal.{natural, decimal}
 
 -- one more than −(n + 1), and that with its sign turned
@@ -21,10 +22,6 @@ up (suc n) = rw (lt-ltb 1 (suc (suc n)) (omega arith)) (ap negsuc (omega arith))
 
 turned : (n : ℕ) → pos 0 -ℤ negℤ (pos n) ≡ pos n
 turned n = ap (λ z. pos 0 +ℤ z) (negℤ-negℤ (pos n)) ∙ +ℤ-idl (pos n)
-
-mag-turned : (n : ℕ) → mag (negℤ (pos n)) ≤ n
-mag-turned zero = omega arith
-mag-turned (suc n) = omega arith
 
 negative : (z : ℤ) → ltZ z (pos 0) ≡ true → z ≡ negsuc (mag z)
 negative (pos n) t = absurd (omega (arith, ltb-true n 0 t))

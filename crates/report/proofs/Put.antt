@@ -1,17 +1,13 @@
 -- Pieces put one after the other.
 use mathlib.Core.Path.{_≡_, refl, sym, ap, ap₂, _∙_}
 use mathlib.Core.List.{List, [], _∷_, _++_, append-assoc}
-use Prim.Native.Nat.{ℕ, suc, _+_, _≤_, _<_}
+use Prim.Native.Nat.{ℕ, suc, _+_, _≤_}
 use native.Mathlib.Omega.{arith}
 use native.Mathlib.Nat.{le-refl, zero-add, add-zero}
 use native.Mathlib.Numerals.{add-one}
-use lib.ListN.{length, take, drop, getD, set, length-append}
-use lib.Seq.{paste, paste-zero, paste-suc, length-paste, take-paste, drop-paste, take-length, drop-drop, set-split, append-snoc}
+use lib.ListN.{length, take, drop, set, length-append}
+use lib.Seq.{paste, paste-zero, length-paste, take-paste, drop-paste, take-length, drop-drop, set-split, append-snoc}
 use Rattle.report.specs.Code.{written, Put}
-
--- one turn of the loop that copies: out has the first j bytes of s from a on, and the next is stored
-pub paste-more : (o : List ℕ) (a : ℕ) (s : List ℕ) (j : ℕ) {out : List ℕ} → out ≡ paste o a s j → a + j < length o → j < length s → set out (a + j) (getD s j 0) ≡ paste o a s (j + 1)
-paste-more o a s j e h k = ap (λ l. set l (a + j) (getD s j 0)) e ∙ paste-suc o a s j 0 h k ∙ ap (paste o a s) (sym (add-one j))
 
 -- one byte
 pub put-one : (o : List ℕ) (a b : ℕ) → a + 1 ≤ length o → Put o a (b ∷ []) (set o a b) (a + 1)

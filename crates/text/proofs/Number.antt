@@ -91,7 +91,7 @@ unfolding below
 below-some zero n = absurd (n refl)
 below-some (suc m) n = refl
 
-mag-turned : (m : ℕ) → mag (negℤ (pos m)) ≤ m
+pub mag-turned : (m : ℕ) → mag (negℤ (pos m)) ≤ m
 mag-turned zero = omega arith
 mag-turned (suc m) = omega arith
 

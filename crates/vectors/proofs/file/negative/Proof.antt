@@ -1,18 +1,14 @@
 use mathlib.Core.Path.{_≡_}
-use Prim.Native.Nat.{ℕ, zero, suc, _≤_}
+use Prim.Native.Nat.{ℕ, _≤_}
 use native.Mathlib.Omega.{arith}
 use lib.IntN.{pos, negℤ, _-ℤ_, +ℤ-idl}
-use lib.Signed.{mag}
 use mir.Syntax.{w64}
 use mir.Val.{SFits, toZ}
 use mir.ValLaws.{toZ-pos}
 use borrow.Author.Needs.{needs}
+use Rattle.text.proofs.Number.{mag-turned}
 use Rattle.vectors.proofs.file.negative.Statement.{statement}
 use Rattle.vectors.proofs.file.negative.Tie as tie
-
-mag-turned : (m : ℕ) → mag (negℤ (pos m)) ≤ m
-mag-turned zero = omega arith
-mag-turned (suc m) = omega arith
 
 turned-fits : (m : ℕ) → m ≤ 9223372036854775807 → SFits w64 (pos 0 -ℤ toZ w64 m)
 turned-fits m h =

@@ -44,7 +44,7 @@ loop-again : tie.Need-loop-again Inv-loop μ-loop
 loop-again c =
     let l = c .before .before in
     let v = l .loop .inv in
-    (omega arith, simp length-set (v .1), paste-more _ _ _ _ (v .2) (toZ-ofZ w64 _ (record { sfits = c .t .given })) (omega arith) (c .before .loop-test .taken))
+    (omega arith, simp length-set (v .1), paste-more _ _ _ _ _ (v .2) (toZ-ofZ w64 _ (record { sfits = c .t .given })) (omega arith) (c .before .loop-test .taken))
 
 same-length : tie.Need-same-length Inv-loop μ-loop
 same-length c = search needs

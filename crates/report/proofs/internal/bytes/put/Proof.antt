@@ -5,7 +5,7 @@ use borrow.Author.Needs.{needs}
 use lib.ListN.{length, length-set}
 use lib.Seq.{paste, paste-zero}
 use Rattle.report.specs.Code.{written}
-use Rattle.report.proofs.Put.{paste-more}
+use Rattle.inputs.proofs.Copy.{paste-more}
 use Rattle.report.proofs.internal.bytes.put.Statement.{statement}
 use Rattle.report.proofs.internal.bytes.put.Tie as tie
 
@@ -37,7 +37,7 @@ loop-again : tie.Need-loop-again Inv-loop μ-loop
 loop-again c =
     let l = c .before .before in
     let v = l .loop .inv in
-    (omega arith, simp length-set (v .1), paste-more _ _ _ _ (v .2) (omega arith) (c .before .loop-test .taken))
+    (omega arith, simp length-set (v .1), paste-more 0 _ _ _ _ (v .2) refl (omega arith) (c .before .loop-test .taken))
 
 add-result : tie.Need-add-result Inv-loop μ-loop
 add-result c = search needs
