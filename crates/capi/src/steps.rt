@@ -41,6 +41,7 @@ fn flat(s: Step) -> KifwalebStep
     }
 }
 
+// The four steps, each over the ends of two intervals.
 #[no_mangle]
 pub extern "C" fn kifwaleb_sum(a_lo: i64, a_hi: i64, b_lo: i64, b_hi: i64) -> KifwalebStep
     ensures { λ r. ⌜ answerOf r ≡ sumAnswer (ends «a_lo» «a_hi») (ends «b_lo» «b_hi») ⌝ }

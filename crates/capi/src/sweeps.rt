@@ -8,6 +8,7 @@ ghost use Rattle.sweep.specs.Call.{outcomeOf, countOf, boxAfter};
 ghost use Rattle.sweep.specs.Calls.{sweepCall, answer};
 ghost use Rattle.capi.specs.Flat.{rowOf};
 
+// The sweep call.
 #[no_mangle]
 pub extern "C" fn kifwaleb_sweep(
     n: usize,

@@ -29,6 +29,7 @@ pub(crate) fn counted(o: Outcome, count: usize) -> KifwalebOutcome
     }
 }
 
+// Elimination from A and f.
 #[no_mangle]
 pub extern "C" fn kifwaleb_eliminate(
     n: usize,
@@ -44,6 +45,7 @@ pub extern "C" fn kifwaleb_eliminate(
     counted(o, 0)
 }
 
+// Elimination from B and b.
 #[no_mangle]
 pub extern "C" fn kifwaleb_eliminate_balance(
     n: usize,

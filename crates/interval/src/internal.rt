@@ -47,6 +47,7 @@ pub fn contains_zero(v: Interval) -> bool
     false
 }
 
+// The sum and the difference, without a range test.
 pub fn sum(x: Interval, y: Interval) -> Interval
     requires { ⌜ Representable (exactSum x y) ⌝ }
     ensures { λ r. ⌜ r ≡ exactSum x y ⌝ }
@@ -65,6 +66,7 @@ pub fn difference(x: Interval, y: Interval) -> Interval
     Interval { lo, hi }
 }
 
+// What both hold; it may be empty.
 pub fn intersection(x: Interval, y: Interval) -> Interval
     ensures { λ r. ⌜ r ≡ intersection x y ⌝ }
 {

@@ -44,6 +44,7 @@ impl Interval {
         Interval { lo: z, hi: z }
     }
 
+    // The exact sum.
     pub fn sum(self, other: Interval) -> Step
         ensures { λ r. ⌜ paper r ≡ sumAnswer self other ⌝ }
     {
@@ -54,6 +55,7 @@ impl Interval {
         in_range_only(internal::sum(self, other))
     }
 
+    // The exact difference.
     pub fn difference(self, other: Interval) -> Step
         ensures { λ r. ⌜ paper r ≡ differenceAnswer self other ⌝ }
     {
@@ -64,6 +66,7 @@ impl Interval {
         in_range_only(internal::difference(self, other))
     }
 
+    // The narrowest interval with ends in units that holds every product.
     pub fn product(self, other: Interval) -> Step
         ensures { λ r. ⌜ paper r ≡ productAnswer self other ⌝ }
     {
@@ -74,6 +77,7 @@ impl Interval {
         in_range_only(internal::product::product(self, other))
     }
 
+    // The narrowest interval with ends in units that holds every quotient.
     pub fn quotient(self, other: Interval) -> Step
         ensures { λ r. ⌜ paper r ≡ quotientAnswer self other ⌝ }
     {
