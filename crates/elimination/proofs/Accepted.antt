@@ -1,9 +1,10 @@
 -- A call that returns 0 has gone to its end: nothing in its tests or in its calculation stops it with that number.
-use mathlib.Core.Path.{_≡_, sym, ap, _∙_, subst}
+use mathlib.Core.Path.{_≡_, refl, sym, ap, _∙_, subst}
 use mathlib.Core.Bool.{Bool, true, false, cond}
-use mathlib.Core.List.{List, [], _∷_}
-use Prim.Native.Nat.{ℕ, zero, suc, _+_}
-use borrow.Author.Tests.{eq-eqb}
+use mathlib.Core.List.{List}
+use Prim.Native.Nat.{ℕ, zero, suc}
+use native.Mathlib.Omega.{arith}
+use borrow.Author.Tests.{eq-eqb, ne-eqb}
 use lib.Dec.{T, eqb}
 use lib.IntN.{ℤ}
 use lib.ListN.{length}
@@ -12,7 +13,8 @@ use Rattle.outcome.specs.Table.{paper}
 use Rattle.interval.specs.declared.Interval.{Interval}
 use Rattle.inputs.specs.declared.Test.{Test}
 use Rattle.inputs.specs.declared.Test.the-variants.{Pass, Fail}
-use Rattle.inputs.specs.Tests.{System, both, need, sized, Slice, lengths, proper, Part, allProper, sizes}
+use Rattle.inputs.specs.Tests.{System}
+use Rattle.inputs.proofs.Early.{Early, early-both, early-sizes, early-all, early-number}
 use Rattle.rows.specs.Sum.{RowSum}
 use Rattle.elimination.specs.Run.{Run, stop, done, andThen, inRangeThen}
 use Rattle.elimination.specs.Forward.{pivoted, columns, rightSide, rows, pivots, forward}
@@ -95,52 +97,15 @@ refuses-solved : (sum : RowSum) (n : ℕ) (t : List ℤ) → Refuses (solved sum
 unfolding solved forward
 refuses-solved sum n t = search (parts, refuses-pivots, refuses-back)
 
--- ---- the tests, in the same way
-abbrev OnTest : Test → Type 0
-OnTest Pass = Unit
-OnTest (Fail o) = Refused o
+-- ---- after the tests
+early-tests : (s : System) (l : ℕ) → Early (tests s l)
+unfolding tests
+early-tests s l = search (early-both, early-sizes, early-all)
 
-record Fails (t : Test) : Type 0 where
-  where-failed : OnTest t
-
-fails-pass : Fails Pass
-fails-pass = record { where-failed = tt }
-
-fails-need : (b : Bool) (o : Outcome) → Refused o → Fails (need b o)
-unfolding need
-fails-need true o h = fails-pass
-fails-need false o h = record { where-failed = h }
-
-fails-both : (t u : Test) → Fails t → Fails u → Fails (both t u)
-unfolding both
-fails-both Pass u h k = k
-fails-both (Fail o) u h k = h
-
-ruleset checks = (fails-pass, fails-need, fails-both)
-
-fails-lengths : (ss : List Slice) → Fails (lengths ss)
-unfolding lengths
-fails-lengths [] = search checks
-fails-lengths (s ∷ ss) = fails-both _ _ (search checks) (fails-lengths ss)
-
-fails-proper : (t : List ℤ) (d p from : ℕ) → Fails (proper t d p from)
-unfolding proper
-fails-proper t zero p from = search checks
-fails-proper t (suc d) p from = search (checks, fails-proper t d)
-
-fails-allProper : (from : ℕ) (ps : List Part) → Fails (allProper from ps)
-unfolding allProper
-fails-allProper from [] = search checks
-fails-allProper from (p ∷ ps) = fails-both _ _ (search fails-proper) (fails-allProper (from + p .count) ps)
-
-fails-tests : (s : System) (l : ℕ) → Fails (tests s l)
-unfolding tests sizes sized
-fails-tests s l = search (checks, fails-lengths, fails-allProper)
-
-refuses-tested : (t : Test) (r : Run) → Fails t → Refuses r → Refuses (tested t r)
+refuses-tested : (t : Test) (r : Run) → Early t → Refuses r → Refuses (tested t r)
 unfolding tested
 refuses-tested Pass r h k = k
-refuses-tested (Fail o) r h k = refuses-stop o (h .where-failed)
+refuses-tested (Fail o) r h k = refuses-stop o (ne-eqb (paper o .number) 0 (omega (arith, early-number h refl)))
 
 -- ---- a call that returned 0, and the box that it left
 to-end : (r : Run) (lent : List ℤ) {x : List ℤ} → Refuses r → paper (outcomeOf r) .number ≡ 0 → x ≡ boxAfter r lent → r ≡ done x
@@ -150,8 +115,8 @@ to-end (done t) lent h e f = ap done (sym f)
 module _ (s : System) (lent : List ℤ) {x : List ℤ} where
   pub accepted-A : paper (outcomeOf (overA s (length lent))) .number ≡ 0 → x ≡ boxAfter (overA s (length lent)) lent → overA s (length lent) ≡ done x
   unfolding overA
-  accepted-A = to-end (overA s (length lent)) lent (search (refuses-tested, fails-tests, refuses-solved))
+  accepted-A = to-end (overA s (length lent)) lent (search (refuses-tested, early-tests, refuses-solved))
 
   pub accepted-B : paper (outcomeOf (overB s (length lent))) .number ≡ 0 → x ≡ boxAfter (overB s (length lent)) lent → overB s (length lent) ≡ done x
   unfolding overB
-  accepted-B = to-end (overB s (length lent)) lent (search (refuses-tested, fails-tests, refuses-then, refuses-formedRows, refuses-solved))
+  accepted-B = to-end (overB s (length lent)) lent (search (refuses-tested, early-tests, refuses-then, refuses-formedRows, refuses-solved))

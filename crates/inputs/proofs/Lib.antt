@@ -1,3 +1,4 @@
 pub mod Tests
 pub mod Place
 pub mod Copy
+pub mod Early
