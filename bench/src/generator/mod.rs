@@ -11,4 +11,4 @@ pub use pairs::{edge_pairs, random_pairs};
 pub use random::Random;
 pub use sweeps::{edge_lists, random_lists, random_lists_up_to, settling};
 pub use systems::{edge_cases, random_cases, random_cases_up_to};
-pub use texts::{edge_texts, long_named_text, random_texts, random_texts_up_to};
+pub use texts::{edge_texts, long_named_text, random_texts, random_texts_up_to, FAULTY_SPELLINGS};

@@ -1,7 +1,8 @@
 //! Texts whose reading was worked out by hand.
 
 use super::{name_range, read_text, CellarText, TextFault, LONGEST_NAME, MOST_BYTES};
-use crate::samples::texts::{with_line, with_lower, FAULTY_LINES, FAULTY_LOWER_ENDS, LINES};
+use crate::generator::FAULTY_SPELLINGS;
+use crate::samples::texts::{with_line, with_lower, FAULTY_LINES, LINES};
 
 /// The line of the first fault, 0 for a text that is too long.
 fn fault(text: &[u8]) -> Option<u64> {
@@ -50,7 +51,7 @@ fn numbers_are_written_in_one_way_only() {
         let read = read_text(text.as_bytes()).unwrap();
         assert_eq!(read.matrix, [number, 9_999_999_999], "{written}");
     }
-    for written in FAULTY_LOWER_ENDS {
+    for written in FAULTY_SPELLINGS {
         assert_eq!(fault(with_lower(written).as_bytes()), Some(2), "{written}");
     }
 }

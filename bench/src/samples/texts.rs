@@ -36,35 +36,6 @@ pub fn with_lower(lower: &str) -> String {
     format!("a\n{lower}:9999999999\n0:0\n")
 }
 
-/// Lower ends that are not as described.
-pub const FAULTY_LOWER_ENDS: [&str; 25] = [
-    "",
-    "-",
-    "--1",
-    "-0",
-    "00",
-    "01",
-    "-01",
-    "-00",
-    "+1",
-    " 1",
-    "1 ",
-    "1\t",
-    "1\r",
-    "1\0",
-    "1-",
-    "1.0",
-    "1e3",
-    "0x1",
-    "1_000",
-    "a",
-    "/",
-    "10000000000",
-    "12345678901",
-    "-10000000000",
-    "00000000001",
-];
-
 /// Lines that do not hold two values as described.
 pub const FAULTY_LINES: [&str; 19] = [
     "\n",

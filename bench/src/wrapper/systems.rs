@@ -13,41 +13,37 @@ pub struct Swept {
     pub count: usize,
 }
 
+/// Lends three slices to a function of the archive: n first, then each
+/// slice's pointer and length, then whatever else it takes.
+macro_rules! lend {
+    ($function:ident, $n:expr, $matrix:expr, $right:expr, $bounds:expr $(, $further:expr)?) => {
+        // SAFETY: each pointer comes with the length of its slice, no other slice
+        // shares memory with the changeable one, and any numbers are accepted.
+        unsafe {
+            $function(
+                $n,
+                $matrix.as_ptr(),
+                $matrix.len(),
+                $right.as_ptr(),
+                $right.len(),
+                $bounds.as_mut_ptr(),
+                $bounds.len(),
+                $($further,)?
+            )
+        }
+    };
+}
+
 /// Writes bounds on the solutions of A·x = f. The matrix has 2·n·n numbers, row
 /// by row, lower end then upper end; right side and bounds have 2·n. What
 /// `bounds` holds before does not matter.
 pub fn eliminate(n: usize, a: &[i64], f: &[i64], bounds: &mut [i64]) -> Outcome {
-    // SAFETY: each pointer comes with the length of its slice, no other slice
-    // shares memory with the changeable one, and any numbers are accepted.
-    let given = unsafe {
-        kifwaleb_eliminate(
-            n,
-            a.as_ptr(),
-            a.len(),
-            f.as_ptr(),
-            f.len(),
-            bounds.as_mut_ptr(),
-            bounds.len(),
-        )
-    };
-    given.into()
+    lend!(kifwaleb_eliminate, n, a, f, bounds).into()
 }
 
 /// Writes bounds on the solutions of x = B·x + b, lent as for `eliminate`.
 pub fn eliminate_balance(n: usize, b_matrix: &[i64], b: &[i64], bounds: &mut [i64]) -> Outcome {
-    // SAFETY: as in `eliminate`.
-    let given = unsafe {
-        kifwaleb_eliminate_balance(
-            n,
-            b_matrix.as_ptr(),
-            b_matrix.len(),
-            b.as_ptr(),
-            b.len(),
-            bounds.as_mut_ptr(),
-            bounds.len(),
-        )
-    };
-    given.into()
+    lend!(kifwaleb_eliminate_balance, n, b_matrix, b, bounds).into()
 }
 
 /// Tightens bounds on the solutions of x = B·x + b, in place, by at most
@@ -55,19 +51,7 @@ pub fn eliminate_balance(n: usize, b_matrix: &[i64], b: &[i64], bounds: &mut [i6
 /// sweeps are `Spent`.
 #[cfg(feature = "sweep")]
 pub fn sweep(n: usize, b_matrix: &[i64], b: &[i64], bounds: &mut [i64], allowed: usize) -> Swept {
-    // SAFETY: as in `eliminate`.
-    let given = unsafe {
-        kifwaleb_sweep(
-            n,
-            b_matrix.as_ptr(),
-            b_matrix.len(),
-            b.as_ptr(),
-            b.len(),
-            bounds.as_mut_ptr(),
-            bounds.len(),
-            allowed,
-        )
-    };
+    let given = lend!(kifwaleb_sweep, n, b_matrix, b, bounds, allowed);
     Swept {
         outcome: given.into(),
         count: given.count as usize,

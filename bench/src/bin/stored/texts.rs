@@ -1,10 +1,9 @@
 //! The cellar text: its numbers, its names, its sheet.
 
 use crate::notes::{Notes, MATRIX_LENGTH, RIGHT_LENGTH};
+use kifwaleb_bench::generator::FAULTY_SPELLINGS;
 use kifwaleb_bench::reference::{MOST_BYTES, SHEET_LENGTH};
-use kifwaleb_bench::samples::texts::{
-    with_line, with_lower, FAULTY_LINES, FAULTY_LOWER_ENDS, INPUT, LINES,
-};
+use kifwaleb_bench::samples::texts::{with_line, with_lower, FAULTY_LINES, INPUT, LINES};
 
 pub fn note(notes: &mut Notes) {
     sample(notes);
@@ -43,7 +42,7 @@ fn spellings(notes: &mut Notes) {
         calls.read_whole((0, 0)).report("refused 3 0");
     }
     notes.remark("numbers not as described");
-    for written in FAULTY_LOWER_ENDS {
+    for written in FAULTY_SPELLINGS {
         notes
             .text(with_lower(written).as_bytes())
             .read_whole((8, 2));

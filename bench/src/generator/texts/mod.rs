@@ -14,6 +14,7 @@ mod spellings;
 
 pub use drawn::{random_texts, random_texts_up_to};
 pub use edges::edge_texts;
+pub use spellings::FAULTY_ENDS as FAULTY_SPELLINGS;
 
 use crate::case::Case;
 
