@@ -1,1 +1,2 @@
 // What the calls are worth: statements in specs/, proofs in proofs/.
+pub mod claims;

@@ -1,1 +1,2 @@
-// Exact fractions, and what the interval steps mean for them. Statements in specs/, proofs in proofs/.
+// Exact fractions and what the four steps mean for them: statements in specs/, proofs in proofs/.
+pub mod claims;
