@@ -7,14 +7,14 @@ use borrow.Author.Tests.{leb-true}
 use lib.Dec.{leb}
 use lib.IntN.{ℤ}
 use Rattle.outcome.specs.declared.Outcome.{Outcome}
-use Rattle.outcome.specs.Table.{paper}
+use Rattle.outcome.specs.Table.{numberAndPlace}
 use Rattle.interval.proofs.Range.{and-both}
 use Rattle.inputs.specs.declared.Test.{Test}
 use Rattle.inputs.specs.declared.Test.the-variants.{Pass, Fail}
 use Rattle.inputs.specs.Tests.{both, need, sized, Slice, lengths, sizes, proper, Part, allProper}
 
 abbrev First : Outcome → Type 0
-First o = (leb 1 (paper o .number) && leb (paper o .number) 4) ≡ true
+First o = (leb 1 (numberAndPlace o .number) && leb (numberAndPlace o .number) 4) ≡ true
 
 abbrev OnTest : Test → Type 0
 OnTest Pass = Unit
@@ -44,9 +44,9 @@ unfolding lengths
 early-lengths [] = search parts
 early-lengths (s ∷ ss) = early-both _ _ (search parts) (early-lengths ss)
 
-pub early-sizes : (n m r b : ℕ) → Early (sizes n m r b)
+pub early-sizes : (n : ℕ) (ss : List Slice) → Early (sizes n ss)
 unfolding sizes sized
-early-sizes n m r b = search (parts, early-lengths)
+early-sizes n ss = search (parts, early-lengths)
 
 early-proper : (t : List ℤ) (d p from : ℕ) → Early (proper t d p from)
 unfolding proper
@@ -58,7 +58,7 @@ unfolding allProper
 early-all from [] = search parts
 early-all from (p ∷ ps) = early-both _ _ (search early-proper) (early-all (from + p .count) ps)
 
-pub early-number : {t : Test} {o : Outcome} → Early t → t ≡ Fail o → (1 ≤ paper o .number) × (paper o .number ≤ 4)
+pub early-number : {t : Test} {o : Outcome} → Early t → t ≡ Fail o → (1 ≤ numberAndPlace o .number) × (numberAndPlace o .number ≤ 4)
 early-number {o = o} h e =
     let b = and-both _ _ (subst Early e h .where-failed) in
-    (leb-true 1 (paper o .number) (b .0), leb-true (paper o .number) 4 (b .1))
+    (leb-true 1 (numberAndPlace o .number) (b .0), leb-true (numberAndPlace o .number) 4 (b .1))

@@ -1,13 +1,15 @@
 -- What the tests say when they pass, and one step of each.
 use mathlib.Core.Path.{_≡_, refl}
 use mathlib.Core.Bool.{Bool, true, false}
-use mathlib.Core.List.{List}
+use mathlib.Core.List.{List, []}
 use Prim.Native.Nat.{ℕ, zero, suc, _+_, _-_, _*_, _≤_, _<_}
 use native.Mathlib.Omega.{arith}
 use native.Mathlib.Nat.{mul-le-mul, add-mul, one-mul}
 use borrow.Author.Tests.{le-leb, lt-leb, leb-true, eq-eqb, ne-eqb, eqb-true}
 use lib.Dec.{leb}
 use lib.IntN.{ℤ}
+use lib.ListN.{length, drop, getD, drop-of-length-le}
+use lib.Seq.{drop-cons}
 use Rattle.outcome.specs.declared.Outcome.{Outcome}
 use Rattle.outcome.specs.declared.Outcome.the-variants as outcome
 use Rattle.interval.specs.Interval.{acceptable}
@@ -15,7 +17,8 @@ use Rattle.interval.proofs.Range.{and-both}
 use Rattle.inputs.specs.declared.Test.{Test}
 use Rattle.inputs.specs.declared.Test.the-variants.{Pass, Fail}
 use Rattle.inputs.specs.Place.{at}
-use Rattle.inputs.specs.Tests.{both, need, sized, lengths, slices, sizes, proper}
+use Rattle.inputs.specs.Tests.{both, need, sized, lengths, proper}
+use Rattle.inputs.specs.Code.{listed}
 
 never : {A : Type 0} (o : Outcome) → Fail o ≡ Pass → A
 never o e = let z : _≡_ {A = ℕ} 0 1 = cc in absurd (omega arith)
@@ -65,55 +68,20 @@ rows-apart n k i h =
     let e : (k + 1) * n ≡ k * n + n = rw (add-mul k 1 n, one-mul n) in
     rw (← e) (mul-le-mul {n₁ = k + 1} {m₁ = n} {n₂ = i} {m₂ = n} (omega arith) (omega arith))
 
-module _ (n m r b : ℕ) where
-  pub lengths-matrix : (m ≡ 2 * (n * n) → ⊥) → Fail (outcome.Length 1) ≡ lengths (slices n m r b)
-  unfolding lengths need both
-  lengths-matrix h = rw (ne-eqb m (2 * (n * n)) h)
+-- one step over the slices that the code lists
+module _ (ss : List (List ℕ)) (i : ℕ) where
+  pub listed-end : length ss ≤ i → Pass ≡ lengths (listed (drop i ss))
+  unfolding lengths listed
+  listed-end h = rw (drop-of-length-le ss h)
 
-  pub lengths-right : m ≡ 2 * (n * n) → (r ≡ 2 * n → ⊥) → Fail (outcome.Length 2) ≡ lengths (slices n m r b)
-  unfolding lengths need both
-  lengths-right e h = rw (eq-eqb m (2 * (n * n)) e, ne-eqb r (2 * n) h)
+  module _ (h : i < length ss) where
+    pub listed-wrong : (getD (getD ss i []) 1 0 ≡ getD (getD ss i []) 2 0 → ⊥) → Fail (outcome.Length (getD (getD ss i []) 0 0)) ≡ lengths (listed (drop i ss))
+    unfolding lengths listed need both
+    listed-wrong k = rw (drop-cons ss i [] h, ne-eqb _ _ k)
 
-  pub lengths-box : m ≡ 2 * (n * n) → r ≡ 2 * n → (b ≡ 2 * n → ⊥) → Fail (outcome.Length 3) ≡ lengths (slices n m r b)
-  unfolding lengths need both
-  lengths-box e f h = rw (eq-eqb m (2 * (n * n)) e, eq-eqb r (2 * n) f, ne-eqb b (2 * n) h)
-
-  pub lengths-yes : m ≡ 2 * (n * n) → r ≡ 2 * n → b ≡ 2 * n → Pass ≡ lengths (slices n m r b)
-  unfolding lengths need both
-  lengths-yes e f g = rw (eq-eqb m (2 * (n * n)) e, eq-eqb r (2 * n) f, eq-eqb b (2 * n) g)
-
-  -- tests 1 and 2 in sequence
-  pub sizes-go : sized n ≡ Pass → lengths (slices n m r b) ≡ sizes n m r b
-  unfolding sizes both
-  sizes-go e = rw e
-
-  pub sizes-stop : (o : Outcome) → sized n ≡ Fail o → Fail o ≡ sizes n m r b
-  unfolding sizes both
-  sizes-stop o e = rw e
-
--- what tests 1 and 2 say
-pub record Fitting (n m r b : ℕ) : Type 0 where
-  pub some : 1 ≤ n
-  pub few : n ≤ 32
-  pub matrix : m ≡ 2 * (n * n)
-  pub right : r ≡ 2 * n
-  pub box : b ≡ 2 * n
-
-pub sizes-pass : (n m r b : ℕ) → sizes n m r b ≡ Pass → Fitting n m r b
-unfolding sizes lengths
-sizes-pass n m r b e =
-    let f = both-pass (sized n) _ e in
-    let g = both-pass _ _ (f .1) in
-    let h = both-pass _ _ (g .1) in
-    let k = both-pass _ _ (h .1) in
-    let s = sized-pass n (f .0) in
-    record {
-      some = s .0;
-      few = s .1;
-      matrix = eqb-true _ _ (need-pass _ (outcome.Length 1) (g .0));
-      right = eqb-true _ _ (need-pass _ (outcome.Length 2) (h .0));
-      box = eqb-true _ _ (need-pass _ (outcome.Length 3) (k .0));
-    }
+    pub listed-right : getD (getD ss i []) 1 0 ≡ getD (getD ss i []) 2 0 → lengths (listed (drop (i + 1) ss)) ≡ lengths (listed (drop i ss))
+    unfolding lengths listed need both
+    listed-right k = let e : i + 1 ≡ suc i = omega arith in rw (e, drop-cons ss i [] h, eq-eqb _ _ k)
 
 -- ---- test 3, one step of its loop; the intervals left are count − p
 module _ (t : List ℤ) (count p from : ℕ) where

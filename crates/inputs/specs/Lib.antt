@@ -1,3 +1,4 @@
 pub mod Place
 pub mod Tests
+pub mod System
 pub mod Code

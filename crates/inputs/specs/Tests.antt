@@ -1,24 +1,16 @@
 -- Document 01, Outcomes: the tests 1, 2 and 3 that precede every calculation. 'Each test before the calculation returns the lowest place at which it fails.'
 use mathlib.Core.Bool.{Bool, cond, _&&_}
 use mathlib.Core.List.{List, [], _∷_}
-use Prim.Native.Nat.{ℕ, zero, suc, _+_, _*_}
+use Prim.Native.Nat.{ℕ, zero, suc, _+_}
 use lib.Dec.{leb, eqb}
 use lib.IntN.{ℤ}
 use Rattle.outcome.specs.declared.Outcome.{Outcome}
 use Rattle.outcome.specs.declared.Outcome.the-variants as outcome
+use Rattle.outcome.specs.Run.{Run, refused}
 use Rattle.interval.specs.Interval.{acceptable}
 use Rattle.inputs.specs.declared.Test.{Test}
 use Rattle.inputs.specs.declared.Test.the-variants.{Pass, Fail}
 use Rattle.inputs.specs.Place.{at}
-
--- what is lent to a call besides its box: 'A matrix is lent as 2·n·n numbers, row by row', a right side as 2·n
-pub record System : Type 0 where
-  pub size : ℕ
-  pub matrix : List ℤ
-  pub right : List ℤ
-
-abbrev pub system : ℕ → List ℤ → List ℤ → System
-system n m r = record { size = n; matrix = m; right = r }
 
 -- a second test counts where the first passes
 unfoldable pub both : Test → Test → Test
@@ -32,16 +24,23 @@ need ok o = cond ok Pass (Fail o)
 unfoldable pub sized : ℕ → Test
 sized n = need (leb 1 n && leb n 32) outcome.Size
 
--- a lent slice: its place in the table, how many numbers it has, how many intervals are wanted
+-- a lent slice: its place in the table, how many numbers it holds, how many are wanted
 pub record Slice : Type 0 where
   pub place : ℕ
   pub held : ℕ
   pub wanted : ℕ
 
+abbrev pub slice : (place held wanted : ℕ) → Slice
+slice p h w = record { place = p; held = h; wanted = w }
+
 -- 'that slice has the wrong length; lowest place first'
 unfoldable pub lengths : List Slice → Test
 lengths [] = Pass
-lengths (s ∷ ss) = both (need (eqb (s .held) (2 * s .wanted)) (outcome.Length (s .place))) (lengths ss)
+lengths (s ∷ ss) = both (need (eqb (s .held) (s .wanted)) (outcome.Length (s .place))) (lengths ss)
+
+-- tests 1 and 2
+unfoldable pub sizes : (n : ℕ) → List Slice → Test
+sizes n ss = both (sized n) (lengths ss)
 
 -- 'ends out of sequence or out of the range; intervals counted from 0': those of t at p, p + 1, .., d of them, at positions from + p and on
 unfoldable pub proper : List ℤ → (d p from : ℕ) → Test
@@ -57,11 +56,7 @@ unfoldable pub allProper : ℕ → List Part → Test
 allProper from [] = Pass
 allProper from (s ∷ ss) = both (proper (s .numbers) (s .count) 0 from) (allProper (from + s .count) ss)
 
--- 'matrix, right side, box', the three slices that an elimination or a sweep is lent
-abbrev pub slices : (n matrix right box : ℕ) → List Slice
-slices n m r b =
-    record { place = 1; held = m; wanted = n * n } ∷ record { place = 2; held = r; wanted = n } ∷ record { place = 3; held = b; wanted = n } ∷ []
-
--- tests 1 and 2
-unfoldable pub sizes : (n matrix right box : ℕ) → Test
-sizes n m r b = both (sized n) (lengths (slices n m r b))
+-- 'then the calculation'
+unfoldable pub tested : {A : Type 0} → Test → Run A → Run A
+tested Pass r = r
+tested (Fail o) r = refused o

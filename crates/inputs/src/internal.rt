@@ -8,7 +8,8 @@ ghost use mathlib.Core.Path.{_≡_};
 ghost use Prim.Native.Nat.{_+_, _*_, _≤_, _<_};
 ghost use lib.ListN.{length};
 ghost use Rattle.inputs.specs.Place.{at, put};
-ghost use Rattle.inputs.specs.Tests.{sized, lengths, slices, sizes, proper};
+ghost use Rattle.inputs.specs.Tests.{sized, lengths, proper};
+ghost use Rattle.inputs.specs.Code.{listed};
 
 // The interval at position p.
 pub fn read(s: &[i64], p: usize) -> Interval
@@ -34,7 +35,7 @@ pub fn write(s: &mut [i64], p: usize, v: Interval)
 }
 
 // Test 1, of n.
-fn size(n: usize) -> Test
+pub fn size(n: usize) -> Test
     ensures { λ r. ⌜ r ≡ sized n ⌝ }
 {
     if 1 <= n {
@@ -45,32 +46,18 @@ fn size(n: usize) -> Test
     Test::Fail(Outcome::Size)
 }
 
-// Test 2, of the lengths of matrix, right side and box.
-fn lengths(n: usize, matrix: usize, right: usize, bounds: usize) -> Test
-    requires { ⌜ n ≤ 32 ⌝ }
-    ensures { λ r. ⌜ r ≡ lengths (slices n matrix right bounds) ⌝ }
+// Test 2, of lent slices: of each its place, the numbers held, the numbers wanted.
+pub fn lengths(slices: &[[usize; 3]]) -> Test
+    requires { ⌜ length (now slices) ≤ 8 ⌝ }
+    ensures { λ r. ⌜ r ≡ lengths (listed (now (slices .entry))) ⌝ }
 {
-    if matrix != 2 * (n * n) {
-        return Test::Fail(Outcome::Length(1));
-    }
-    if right != 2 * n {
-        return Test::Fail(Outcome::Length(2));
-    }
-    if bounds != 2 * n {
-        return Test::Fail(Outcome::Length(3));
+    for i in 0..slices.len() {
+        let s = slices[i];
+        if s[1] != s[2] {
+            return Test::Fail(Outcome::Length(s[0]));
+        }
     }
     Test::Pass
-}
-
-// Tests 1 and 2.
-pub fn size_and_lengths(n: usize, matrix: usize, right: usize, bounds: usize) -> Test
-    ensures { λ r. ⌜ r ≡ sizes n matrix right bounds ⌝ }
-{
-    let s = size(n);
-    if let Test::Pass = s {
-        return lengths(n, matrix, right, bounds);
-    }
-    s
 }
 
 // Test 3, of the intervals of one slice, whose first position is from.

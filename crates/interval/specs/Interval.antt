@@ -1,6 +1,6 @@
 -- Document 01, Bounds in units: the interval, its constants, and the arithmetic on it with outward rounding.
 use mathlib.Core.Bool.{Bool, _&&_}
-use lib.IntN.{ℤ, pos, negsuc, _+ℤ_, _-ℤ_, _*ℤ_}
+use lib.IntN.{ℤ, pos, negℤ, _+ℤ_, _-ℤ_, _*ℤ_}
 use lib.Signed.{leZ, ltZ}
 use Rattle.integer.specs.Rounding.{floorDiv, ceilDiv}
 use Rattle.integer.specs.Extremes.{minimum, maximum}
@@ -8,14 +8,14 @@ use Rattle.interval.specs.declared.Interval.{Interval}
 
 -- 'A unit is one millionth': the units in one whole
 unfoldable pub scale : ℤ
-scale = pos 1000000
+scale = pos 1_000_000
 
 -- 'both from −2,000,000,000 to 2,000,000,000': the range
 unfoldable pub lowest : ℤ
-lowest = negsuc 1999999999
+lowest = negℤ (pos 2_000_000_000)
 
 unfoldable pub highest : ℤ
-highest = pos 2000000000
+highest = pos 2_000_000_000
 
 -- an interval from its two ends; 'Nought, one (1,000,000 units) and the interval of a single number'
 abbrev pub ends : ℤ → ℤ → Interval

@@ -1,3 +1,3 @@
 pub mod Interval
-pub mod Code
 pub mod Answer
+pub mod Code

@@ -11,14 +11,14 @@ pub record Row : Type 0 where
 abbrev row : ℕ → ℕ → Row
 row o p = record { number = o; place = p }
 
-abbrev pub paper : Outcome → Row
-paper Done = row 0 0
-paper Spent = row 9 0
-paper Size = row 1 0
-paper (Length slice) = row 2 slice
-paper Allowed = row 4 0
-paper (Ends position) = row 3 position
-paper (ContainsZero pivot) = row 5 pivot
-paper (OutOfRange i) = row 6 i
-paper (Empty i) = row 7 i
-paper (Text line) = row 8 line
+abbrev pub numberAndPlace : Outcome → Row
+numberAndPlace Done = row 0 0
+numberAndPlace Spent = row 9 0
+numberAndPlace Size = row 1 0
+numberAndPlace (Length slice) = row 2 slice
+numberAndPlace Allowed = row 4 0
+numberAndPlace (Ends position) = row 3 position
+numberAndPlace (ContainsZero pivot) = row 5 pivot
+numberAndPlace (OutOfRange i) = row 6 i
+numberAndPlace (Empty i) = row 7 i
+numberAndPlace (Text line) = row 8 line

@@ -1,7 +1,7 @@
 ghost use mathlib.Core.Path.{_≡_};
-ghost use Rattle.outcome.specs.Table.{paper};
+ghost use Rattle.outcome.specs.Table.{numberAndPlace};
 
-// How a call ends: document 01, Outcomes. Each case carries the place that its row of the table names; paper, in specs/, gives the numbers.
+// How a call ends: document 01, Outcomes. Each case carries the place that its row of the table names; numberAndPlace, in specs/, gives the numbers.
 // The count of sweeps stands beside an outcome, not in it.
 pub enum Outcome {
     // done, or settled
@@ -28,7 +28,7 @@ pub enum Outcome {
 impl Outcome {
     // the number that document 01 gives it
     pub fn number(self) -> u64
-        ensures { λ r. ⌜ r ≡ paper self .number ⌝ }
+        ensures { λ r. ⌜ r ≡ numberAndPlace self .number ⌝ }
     {
         match self {
             Outcome::Done => 0,
@@ -46,7 +46,7 @@ impl Outcome {
 
     // the place returned with it
     pub fn place(self) -> usize
-        ensures { λ r. ⌜ r ≡ paper self .place ⌝ }
+        ensures { λ r. ⌜ r ≡ numberAndPlace self .place ⌝ }
     {
         match self {
             Outcome::Done => 0,

@@ -1,32 +1,72 @@
+use mathlib.Core.Path.{_≡_, refl, _∙_}
+use Prim.Native.Nat.{_-_, _≤_}
 use native.Mathlib.Omega.{arith}
 use borrow.Author.Needs.{needs}
-use Rattle.inputs.proofs.Tests.{square, lengths-matrix, lengths-right, lengths-box, lengths-yes}
+use denote.Ref.{now}
+use lib.ListN.{drop}
+use Rattle.inputs.specs.Tests.{lengths}
+use Rattle.inputs.specs.Code.{listed}
+use Rattle.inputs.proofs.Tests.{listed-end, listed-wrong, listed-right}
 use Rattle.inputs.proofs.internal.lengths.Statement.{statement}
 use Rattle.inputs.proofs.internal.lengths.Tie as tie
 
-mul-if1 : tie.Need-mul-if1
-mul-if1 c = omega (arith, square (c .args .n) (c .pre))
+abbrev Inv-loop : tie.InvT-loop
+Inv-loop slices i₀ i-end i = (i ≤ i-end) × (lengths (listed (drop i slices)) ≡ lengths (listed slices))
 
-mul-if1-2 : tie.Need-mul-if1-2
-mul-if1-2 c = omega (arith, square (c .args .n) (c .pre))
+abbrev μ-loop : tie.MeasureT-loop
+μ-loop slices i₀ i-end i = i-end - i
 
-returns : tie.Need-returns
-returns c = lengths-matrix _ _ _ _ (c .if1 .taken)
+loop-holds : tie.Need-loop-holds Inv-loop μ-loop
+loop-holds c = (omega arith, refl)
 
-mul-if2 : tie.Need-mul-if2
-mul-if2 c = search needs
+mul-s : tie.Need-mul-s Inv-loop μ-loop
+mul-s c = omega (arith, c .before .before .pre)
 
-returns-2 : tie.Need-returns-2
-returns-2 c = lengths-right _ _ _ _ (c .before .if1 .left) (c .if2 .taken)
+shared-slice-copy-out-s : tie.Need-shared-slice-copy-out-s Inv-loop μ-loop
+shared-slice-copy-out-s c = search needs
 
-mul-if3 : tie.Need-mul-if3
-mul-if3 c = search needs
+array-read-if1 : tie.Need-array-read-if1 Inv-loop μ-loop
+array-read-if1 c = search needs
 
-returns-3 : tie.Need-returns-3
-returns-3 c = lengths-box _ _ _ _ (c .before .before .if1 .left) (c .before .if2 .left) (c .if3 .taken)
+array-read-if1-2 : tie.Need-array-read-if1-2 Inv-loop μ-loop
+array-read-if1-2 c = search needs
 
-returns-4 : tie.Need-returns-4
-returns-4 c = lengths-yes _ _ _ _ (c .before .before .if1 .left) (c .before .if2 .left) (c .if3 .left)
+array-read-t16 : tie.Need-array-read-t16 Inv-loop μ-loop
+array-read-t16 c = search needs
+
+returns : tie.Need-returns Inv-loop μ-loop
+returns c =
+    let l = c .before .before .before in
+    listed-wrong (now (l .before .args .slices)) (l .loop .i) (omega arith) (c .if1 .taken) ∙ l .loop .inv .1
+
+add-i : tie.Need-add-i Inv-loop μ-loop
+add-i c = search needs
+
+loop-less : tie.Need-loop-less Inv-loop μ-loop
+loop-less c = search needs
+
+loop-again : tie.Need-loop-again Inv-loop μ-loop
+loop-again c =
+    let l = c .before .before .before in
+    (omega arith, listed-right (now (l .before .args .slices)) (l .loop .i) (omega arith) (c .if1 .left) ∙ l .loop .inv .1)
+
+returns-2 : tie.Need-returns-2 Inv-loop μ-loop
+returns-2 c = let l = c .before in listed-end (now (l .before .args .slices)) (l .loop .i) (omega arith) ∙ l .loop .inv .1
 
 pub lengths-spec : {M : Type 1} → statement M
-lengths-spec = tie.close (tie.spec mul-if1 mul-if1-2 returns mul-if2 returns-2 mul-if3 returns-3 returns-4)
+lengths-spec =
+    tie.close
+    (tie.spec
+    Inv-loop
+    μ-loop
+    loop-holds
+    mul-s
+    shared-slice-copy-out-s
+    array-read-if1
+    array-read-if1-2
+    array-read-t16
+    returns
+    add-i
+    loop-less
+    loop-again
+    returns-2)
