@@ -20,7 +20,8 @@ use Rattle.inputs.specs.Place.{at, put}
 use Rattle.inputs.proofs.Place.{length-put, at-put-same, at-put-other}
 use Rattle.rows.specs.Sum.{RowSum}
 use Rattle.rows.specs.Exact.{nought, exactRow, Encloses}
-use Rattle.elimination.specs.Run.{done, cell, rhs}
+use Rattle.outcome.specs.Run.{done}
+use Rattle.elimination.specs.Run.{cell, rhs}
 use Rattle.elimination.specs.Back.{numerator, back}
 use Rattle.elimination.specs.Code.{Pivots}
 use Rattle.elimination.proofs.Index.{cell-before}

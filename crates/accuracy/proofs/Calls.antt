@@ -10,7 +10,8 @@ use Rattle.interval.proofs.Range.{is-sound}
 use Rattle.inputs.specs.declared.Test.{Test}
 use Rattle.inputs.specs.declared.Test.the-variants.{Pass, Fail}
 use Rattle.inputs.specs.Place.{at}
-use Rattle.inputs.specs.Tests.{System, allProper}
+use Rattle.inputs.specs.System.{System}
+use Rattle.inputs.specs.Tests.{allProper}
 use Rattle.inputs.proofs.Tests.{both-pass, sizes-pass}
 use Rattle.inputs.proofs.Place.{proper-sound}
 use Rattle.rows.specs.Sum.{singly}

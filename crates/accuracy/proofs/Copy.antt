@@ -11,7 +11,7 @@ use Rattle.interval.specs.declared.Interval.{Interval}
 use Rattle.interval.specs.Interval.{ends, exactDifference}
 use Rattle.interval.proofs.Range.{same-ends}
 use Rattle.inputs.specs.Place.{at}
-use Rattle.inputs.specs.Tests.{System}
+use Rattle.inputs.specs.System.{System}
 use Rattle.inputs.proofs.Place.{at-left, at-right}
 use Rattle.elimination.specs.Run.{cell, rhs}
 use Rattle.elimination.specs.Formed.{identity}

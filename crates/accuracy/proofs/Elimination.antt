@@ -13,11 +13,12 @@ use Rattle.fraction.proofs.Inside.{inside-same}
 use Rattle.inputs.specs.declared.Test.{Test}
 use Rattle.inputs.specs.declared.Test.the-variants.{Pass, Fail}
 use Rattle.inputs.specs.Place.{at}
-use Rattle.inputs.specs.Tests.{System}
+use Rattle.inputs.specs.System.{System}
 use Rattle.rows.specs.Sum.{RowSum, singly}
 use Rattle.rows.specs.Exact.{Encloses}
 use Rattle.rows.proofs.Enclosed.{singly-encloses}
-use Rattle.elimination.specs.Run.{Run, done, cell, rhs}
+use Rattle.outcome.specs.Run.{Run, done}
+use Rattle.elimination.specs.Run.{cell, rhs}
 use Rattle.elimination.specs.Formed.{identity}
 use Rattle.elimination.specs.Call.{copied, solved, tests, tested, overA, overB}
 use Rattle.elimination.proofs.Run.{never, done-same, joined}

@@ -10,7 +10,7 @@ use Rattle.interval.specs.declared.Interval.{Interval}
 use Rattle.fraction.specs.Fraction.{Fraction}
 use Rattle.fraction.specs.Meaning.{Contains}
 use Rattle.inputs.specs.Place.{at}
-use Rattle.inputs.specs.Tests.{System}
+use Rattle.inputs.specs.System.{System}
 use Rattle.sweep.specs.Pass.{Pass, stopped, whole}
 use Rattle.accuracy.specs.Solution.{Solution, InBox}
 use Rattle.accuracy.specs.Claim.{Narrowed}

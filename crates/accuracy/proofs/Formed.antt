@@ -20,7 +20,8 @@ use Rattle.interval.proofs.Range.{same-ends}
 use Rattle.fraction.specs.Fraction.{Inside}
 use Rattle.inputs.specs.Place.{at, put}
 use Rattle.inputs.proofs.Place.{length-put, at-put-other}
-use Rattle.elimination.specs.Run.{done, cell}
+use Rattle.outcome.specs.Run.{done}
+use Rattle.elimination.specs.Run.{cell}
 use Rattle.elimination.specs.Formed.{identity, formedRow, formedRows}
 use Rattle.inputs.proofs.Tests.{rows-apart}
 use Rattle.elimination.proofs.Run.{done-same, joined, ranged}

@@ -13,7 +13,8 @@ use Rattle.interval.specs.declared.Interval.{Interval}
 use Rattle.interval.specs.Interval.{containsZero, exactDifference, product, quotient}
 use Rattle.inputs.specs.Place.{at, put}
 use Rattle.inputs.proofs.Place.{length-put, at-put-same, at-put-other}
-use Rattle.elimination.specs.Run.{done, cell, rhs}
+use Rattle.outcome.specs.Run.{done}
+use Rattle.elimination.specs.Run.{cell, rhs}
 use Rattle.elimination.specs.Forward.{reduced, columns, rightSide, rows, pivots, forward}
 use Rattle.inputs.proofs.Tests.{rows-apart}
 use Rattle.elimination.proofs.Index.{cell-before}

@@ -10,7 +10,7 @@ use Rattle.integer.proofs.Order.{also, prod, lt-le}
 use Rattle.interval.specs.declared.Interval.{Interval}
 use Rattle.fraction.specs.Fraction.{Fraction, Inside}
 use Rattle.inputs.specs.Place.{at}
-use Rattle.inputs.specs.Tests.{System}
+use Rattle.inputs.specs.System.{System}
 use Rattle.elimination.proofs.Accepted.{accepted-A, accepted-B}
 use Rattle.sweep.specs.Calls.{changes}
 use Rattle.accuracy.specs.Solution.{Solution, InBox, balanceOf}

@@ -19,7 +19,7 @@ use Rattle.fraction.specs.Meaning.{Contains}
 use Rattle.fraction.proofs.Inside.{same-sym, inside-same, in-order, intersection-inside}
 use Rattle.fraction.proofs.Sum.{sum-inside}
 use Rattle.inputs.specs.Place.{at, put}
-use Rattle.inputs.specs.Tests.{System}
+use Rattle.inputs.specs.System.{System}
 use Rattle.inputs.proofs.Place.{length-put, at-put-same, at-put-other}
 use Rattle.rows.specs.Sum.{RowSum}
 use Rattle.rows.specs.Exact.{nought, exactRow, Encloses}

@@ -11,7 +11,7 @@ use Rattle.integer.proofs.Order.{taken}
 use Rattle.interval.specs.declared.Interval.{Interval}
 use Rattle.fraction.specs.Meaning.{Contains}
 use Rattle.inputs.specs.Place.{at}
-use Rattle.inputs.specs.Tests.{System}
+use Rattle.inputs.specs.System.{System}
 use Rattle.sweep.specs.Pass.{differs}
 use Rattle.sweep.specs.Call.{Log, emptied, settled, spent, swept}
 use Rattle.accuracy.specs.Claim.{width, Narrowed}

@@ -10,7 +10,8 @@ use lib.ListN.{length}
 use Rattle.interval.specs.declared.Interval.{Interval}
 use Rattle.inputs.specs.Place.{at, put}
 use Rattle.inputs.proofs.Place.{length-put, at-put-same, at-put-other}
-use Rattle.elimination.specs.Run.{done, cell}
+use Rattle.outcome.specs.Run.{done}
+use Rattle.elimination.specs.Run.{cell}
 use Rattle.elimination.proofs.Index.{cell-before}
 use Rattle.elimination.proofs.Run.{done-same}
 

@@ -8,7 +8,7 @@ use lib.Signed.{_≤ℤ_, ltZ-yes}
 use Rattle.interval.specs.Interval.{ends}
 use Rattle.fraction.specs.Fraction.{Fraction, Inside}
 use Rattle.inputs.specs.Place.{at}
-use Rattle.inputs.specs.Tests.{System}
+use Rattle.inputs.specs.System.{System}
 use Rattle.sweep.specs.Pass.{differs}
 use Rattle.sweep.specs.Call.{Log, emptied, settled, spent, swept, ran}
 use Rattle.sweep.specs.Calls.{Call, answer}

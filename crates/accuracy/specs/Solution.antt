@@ -6,7 +6,7 @@ use Rattle.interval.specs.declared.Interval.{Interval}
 use Rattle.interval.specs.Interval.{exactDifference}
 use Rattle.fraction.specs.Fraction.{Fraction, Inside, Same}
 use Rattle.inputs.specs.Place.{at}
-use Rattle.inputs.specs.Tests.{System}
+use Rattle.inputs.specs.System.{System}
 use Rattle.rows.specs.Exact.{exactRow}
 use Rattle.elimination.specs.Run.{cell}
 use Rattle.elimination.specs.Formed.{identity}

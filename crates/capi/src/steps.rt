@@ -2,7 +2,7 @@ use interval::Interval;
 use interval::Step;
 use outcome::Outcome;
 ghost use mathlib.Core.Path.{_≡_};
-ghost use Rattle.interval.specs.Answer.{paper, answer, sumAnswer, differenceAnswer, productAnswer, quotientAnswer};
+ghost use Rattle.interval.specs.Answer.{numberAndPlace, answer, sumAnswer, differenceAnswer, productAnswer, quotientAnswer};
 ghost use Rattle.interval.specs.Interval.{ends};
 ghost use Rattle.capi.specs.Flat.{answerOf};
 
@@ -31,7 +31,7 @@ fn returned(o: Outcome, v: Interval) -> KifwalebStep
 }
 
 fn flat(s: Step) -> KifwalebStep
-    ensures { λ r. ⌜ answerOf r ≡ paper s ⌝ }
+    ensures { λ r. ⌜ answerOf r ≡ numberAndPlace s ⌝ }
 {
     match s {
         Step::Value(v) => returned(Outcome::Done, v),

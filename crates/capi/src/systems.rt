@@ -3,8 +3,8 @@ use elimination::eliminate_balance;
 use outcome::Outcome;
 ghost use mathlib.Core.Path.{_≡_};
 ghost use lib.ListN.{length};
-ghost use Rattle.outcome.specs.Table.{paper};
-ghost use Rattle.inputs.specs.Tests.{system};
+ghost use Rattle.outcome.specs.Table.{numberAndPlace};
+ghost use Rattle.inputs.specs.System.{system};
 ghost use Rattle.elimination.specs.Call.{overA, overB, outcomeOf, boxAfter};
 ghost use Rattle.capi.specs.Flat.{rowOf};
 
@@ -17,7 +17,7 @@ pub struct KifwalebOutcome {
 }
 
 pub(crate) fn counted(o: Outcome, count: usize) -> KifwalebOutcome
-    ensures { λ r. ⌜ (rowOf r ≡ paper o) × (r .count ≡ count) ⌝ }
+    ensures { λ r. ⌜ (rowOf r ≡ numberAndPlace o) × (r .count ≡ count) ⌝ }
 {
     let number = o.number();
     let place = o.place() as u64;
@@ -37,7 +37,7 @@ pub extern "C" fn kifwaleb_eliminate(
     f: &[i64],
     bounds: &mut [i64],
 ) -> KifwalebOutcome
-    ensures outcome { λ r. ⌜ rowOf r ≡ paper (outcomeOf (overA (system n (now (a .entry)) (now (f .entry))) (length (now (bounds .entry))))) ⌝ }
+    ensures outcome { λ r. ⌜ rowOf r ≡ numberAndPlace (outcomeOf (overA (system n (now (a .entry)) (now (f .entry))) (length (now (bounds .entry))))) ⌝ }
     ensures counted { λ r. ⌜ r .count ≡ 0 ⌝ }
     ensures written { λ r. ⌜ now (bounds .exit) ≡ boxAfter (overA (system n (now (a .entry)) (now (f .entry))) (length (now (bounds .entry)))) (now (bounds .entry)) ⌝ }
 {
@@ -53,7 +53,7 @@ pub extern "C" fn kifwaleb_eliminate_balance(
     b: &[i64],
     bounds: &mut [i64],
 ) -> KifwalebOutcome
-    ensures outcome { λ r. ⌜ rowOf r ≡ paper (outcomeOf (overB (system n (now («b_matrix» .entry)) (now (b .entry))) (length (now (bounds .entry))))) ⌝ }
+    ensures outcome { λ r. ⌜ rowOf r ≡ numberAndPlace (outcomeOf (overB (system n (now («b_matrix» .entry)) (now (b .entry))) (length (now (bounds .entry))))) ⌝ }
     ensures counted { λ r. ⌜ r .count ≡ 0 ⌝ }
     ensures written { λ r. ⌜ now (bounds .exit) ≡ boxAfter (overB (system n (now («b_matrix» .entry)) (now (b .entry))) (length (now (bounds .entry)))) (now (bounds .entry)) ⌝ }
 {

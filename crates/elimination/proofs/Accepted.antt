@@ -9,46 +9,48 @@ use lib.Dec.{T, eqb}
 use lib.IntN.{ℤ}
 use lib.ListN.{length}
 use Rattle.outcome.specs.declared.Outcome.{Outcome}
-use Rattle.outcome.specs.Table.{paper}
+use Rattle.outcome.specs.Table.{numberAndPlace}
 use Rattle.interval.specs.declared.Interval.{Interval}
 use Rattle.inputs.specs.declared.Test.{Test}
 use Rattle.inputs.specs.declared.Test.the-variants.{Pass, Fail}
-use Rattle.inputs.specs.Tests.{System}
+use Rattle.inputs.specs.Tests.{tested}
+use Rattle.inputs.specs.System.{System}
 use Rattle.inputs.proofs.Early.{Early, early-both, early-sizes, early-all, early-number}
 use Rattle.rows.specs.Sum.{RowSum}
-use Rattle.elimination.specs.Run.{Run, stop, done, andThen, inRangeThen}
+use Rattle.outcome.specs.Run.{Run, refused, done, andThen, ended}
+use Rattle.elimination.specs.Run.{inRangeThen}
 use Rattle.elimination.specs.Forward.{pivoted, columns, rightSide, rows, pivots, forward}
 use Rattle.elimination.specs.Back.{back}
 use Rattle.elimination.specs.Formed.{formedRow, formedRows}
-use Rattle.elimination.specs.Call.{solved, tests, tested, overA, overB, outcomeOf, boxAfter}
+use Rattle.elimination.specs.Call.{solved, tests, runA, runB, written, overA, overB}
 
 -- ---- where a run stops, its number is not 0. It is a record so that a search goes by the parts of the run and computes none of them
 abbrev Refused : Outcome → Type 0
-Refused o = eqb (paper o .number) 0 ≡ false
+Refused o = eqb (numberAndPlace o .number) 0 ≡ false
 
-abbrev OnRun : Run → Type 0
-OnRun (stop o) = Refused o
+abbrev OnRun : Run (List ℤ) → Type 0
+OnRun (refused o) = Refused o
 OnRun (done t) = Unit
 
-record Refuses (r : Run) : Type 0 where
+record Refuses (r : Run (List ℤ)) : Type 0 where
   where-stopped : OnRun r
 
 refuses-done : (t : List ℤ) → Refuses (done t)
 refuses-done t = record { where-stopped = tt }
 
-refuses-stop : (o : Outcome) → Refused o → Refuses (stop o)
+refuses-stop : (o : Outcome) → Refused o → Refuses (refused o)
 refuses-stop o h = record { where-stopped = h }
 
-refuses-cond : (b : Bool) (q r : Run) → Refuses q → Refuses r → Refuses (cond b q r)
+refuses-cond : (b : Bool) (q r : Run (List ℤ)) → Refuses q → Refuses r → Refuses (cond b q r)
 refuses-cond true q r h k = h
 refuses-cond false q r h k = k
 
-refuses-then : (r : Run) (f : List ℤ → Run) → Refuses r → ((t : List ℤ) → Refuses (f t)) → Refuses (andThen r f)
+refuses-then : (r : Run (List ℤ)) (f : List ℤ → Run (List ℤ)) → Refuses r → ((t : List ℤ) → Refuses (f t)) → Refuses (andThen r f)
 unfolding andThen
-refuses-then (stop o) f h k = refuses-stop o (h .where-stopped)
+refuses-then (refused o) f h k = refuses-stop o (h .where-stopped)
 refuses-then (done t) f h k = k t
 
-refuses-range : (row : ℕ) (v : Interval) (f : Interval → Run) → ((w : Interval) → Refuses (f w)) → Refuses (inRangeThen row v f)
+refuses-range : (row : ℕ) (v : Interval) (f : Interval → Run (List ℤ)) → ((w : Interval) → Refuses (f w)) → Refuses (inRangeThen row v f)
 unfolding inRangeThen
 refuses-range row v f h = search (refuses-cond, refuses-stop, h)
 
@@ -102,21 +104,22 @@ early-tests : (s : System) (l : ℕ) → Early (tests s l)
 unfolding tests
 early-tests s l = search (early-both, early-sizes, early-all)
 
-refuses-tested : (t : Test) (r : Run) → Early t → Refuses r → Refuses (tested t r)
+refuses-tested : (t : Test) (r : Run (List ℤ)) → Early t → Refuses r → Refuses (tested t r)
 unfolding tested
 refuses-tested Pass r h k = k
-refuses-tested (Fail o) r h k = refuses-stop o (ne-eqb (paper o .number) 0 (omega (arith, early-number h refl)))
+refuses-tested (Fail o) r h k = refuses-stop o (ne-eqb (numberAndPlace o .number) 0 (omega (arith, early-number h refl)))
 
 -- ---- a call that returned 0, and the box that it left
-to-end : (r : Run) (lent : List ℤ) {x : List ℤ} → Refuses r → paper (outcomeOf r) .number ≡ 0 → x ≡ boxAfter r lent → r ≡ done x
-to-end (stop o) lent h e f = absurd (subst T (sym (eq-eqb _ 0 e) ∙ h .where-stopped) tt)
+to-end : (r : Run (List ℤ)) (lent : List ℤ) {x : List ℤ} → Refuses r → ended written lent r .number ≡ 0 → x ≡ ended written lent r .left → r ≡ done x
+unfolding ended
+to-end (refused o) lent h e f = absurd (subst T (sym (eq-eqb _ 0 e) ∙ h .where-stopped) tt)
 to-end (done t) lent h e f = ap done (sym f)
 
 module _ (s : System) (lent : List ℤ) {x : List ℤ} where
-  pub accepted-A : paper (outcomeOf (overA s (length lent))) .number ≡ 0 → x ≡ boxAfter (overA s (length lent)) lent → overA s (length lent) ≡ done x
-  unfolding overA
-  accepted-A = to-end (overA s (length lent)) lent (search (refuses-tested, early-tests, refuses-solved))
+  pub accepted-A : overA s lent .number ≡ 0 → x ≡ overA s lent .left → runA s (length lent) ≡ done x
+  unfolding runA
+  accepted-A = to-end (runA s (length lent)) lent (search (refuses-tested, early-tests, refuses-solved))
 
-  pub accepted-B : paper (outcomeOf (overB s (length lent))) .number ≡ 0 → x ≡ boxAfter (overB s (length lent)) lent → overB s (length lent) ≡ done x
-  unfolding overB
-  accepted-B = to-end (overB s (length lent)) lent (search (refuses-tested, early-tests, refuses-then, refuses-formedRows, refuses-solved))
+  pub accepted-B : overB s lent .number ≡ 0 → x ≡ overB s lent .left → runB s (length lent) ≡ done x
+  unfolding runB
+  accepted-B = to-end (runB s (length lent)) lent (search (refuses-tested, early-tests, refuses-then, refuses-formedRows, refuses-solved))

@@ -17,7 +17,8 @@ use Rattle.inputs.proofs.Place.{at-put-other}
 use Rattle.rows.specs.Sum.{singly}
 use Rattle.rows.proofs.Size.{Small, acceptable-small, difference-small, small-fits}
 use Rattle.rows.proofs.Sum.{singly-small}
-use Rattle.elimination.specs.Run.{Run, stop, done, inRangeThen, cell, rhs}
+use Rattle.outcome.specs.Run.{Run, refused, done}
+use Rattle.elimination.specs.Run.{inRangeThen, cell, rhs}
 use Rattle.elimination.specs.Back.{numerator, back}
 use Rattle.elimination.specs.Code.{Working, Pivots, Placed, unknown, Solved}
 use Rattle.elimination.proofs.Index.{cell-before}
@@ -54,16 +55,16 @@ twice true b x o = refl
 twice false b x o = refl
 
 -- a test hands on the list that it decides on
-handed : (f : List ℤ → Run) (b : Bool) (u t t′ : List ℤ) (o : Run) → t′ ≡ cond b u t → cond b (f u) o ≡ cond b (f t′) o
+handed : (f : List ℤ → Run (List ℤ)) (b : Bool) (u t t′ : List ℤ) (o : Run (List ℤ)) → t′ ≡ cond b u t → cond b (f u) o ≡ cond b (f t′) o
 handed f true u t t′ o e = ap f (sym e)
 handed f false u t t′ o e = refl
 
 -- a row of the definition, as the code leaves it
-back-step : (n i : ℕ) (t : List ℤ) (r : Bool) (t′ : List ℤ) → Solved n i t r t′ → back singly n (suc i) t ≡ cond r (back singly n i t′) (stop (outcome.OutOfRange (i + 1)))
+back-step : (n i : ℕ) (t : List ℤ) (r : Bool) (t′ : List ℤ) → Solved n i t r t′ → back singly n (suc i) t ≡ cond r (back singly n i t′) (refused (outcome.OutOfRange (i + 1)))
 unfolding back inRangeThen unknown
 back-step n i t r t′ s =
     let on = back singly n i (put t (rhs n i) (unknown n i t)) in
-    let out = stop (outcome.OutOfRange (i + 1)) in
+    let out = refused (outcome.OutOfRange (i + 1)) in
     twice (inRange (numerator singly n i t)) (inRange (unknown n i t)) on out ∙
     ap (λ b. cond b on out) (sym (s .flag)) ∙
     handed (back singly n i) r _ t t′ out (s .list)
@@ -75,13 +76,13 @@ module _ (n i : ℕ) (t : List ℤ) where
   back-end h = let e : i ≡ 0 = omega arith in rw e
 
   module _ (h : 0 < i) (r : Bool) (t′ : List ℤ) (s : Solved n (i - 1) t r t′) where
-    back-turn : back singly n i t ≡ cond r (back singly n (i - 1) t′) (stop (outcome.OutOfRange (i - 1 + 1)))
+    back-turn : back singly n i t ≡ cond r (back singly n (i - 1) t′) (refused (outcome.OutOfRange (i - 1 + 1)))
     back-turn = let e : i ≡ suc (i - 1) = omega arith in ap (λ k. back singly n k t) e ∙ back-step n (i - 1) t r t′ s
 
     pub back-go : r ≡ true → back singly n i t ≡ back singly n (i - 1) t′
     back-go e = back-turn ∙ rw e
 
-    pub back-out : r ≡ false → back singly n i t ≡ stop (outcome.OutOfRange (i - 1 + 1))
+    pub back-out : r ≡ false → back singly n i t ≡ refused (outcome.OutOfRange (i - 1 + 1))
     back-out e = back-turn ∙ rw e
 
 -- x(i) stands after all the pivots

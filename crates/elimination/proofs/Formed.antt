@@ -17,7 +17,8 @@ use Rattle.interval.specs.Code.{Representable}
 use Rattle.inputs.specs.Place.{at}
 use Rattle.inputs.specs.Code.{Sound}
 use Rattle.rows.proofs.Size.{Small, acceptable-small, difference-small, small-fits}
-use Rattle.elimination.specs.Run.{stop, done, andThen, inRangeThen, cell}
+use Rattle.outcome.specs.Run.{refused, done, andThen}
+use Rattle.elimination.specs.Run.{inRangeThen, cell}
 use Rattle.elimination.specs.Formed.{identity, formedRow, formedRows}
 use Rattle.elimination.specs.Code.{Working, Placed}
 use Rattle.elimination.proofs.Index.{cell-room}
@@ -68,7 +69,7 @@ module _ (n i j : ℕ) (t : List ℤ) where
     unfolding formedRow inRangeThen
     formedRow-go e = rw (turn n j h, p .list, sym (p .flag) ∙ e)
 
-    pub formedRow-out : r ≡ false → formedRow n i (n - j) j t ≡ stop (outcome.OutOfRange (i + 1))
+    pub formedRow-out : r ≡ false → formedRow n i (n - j) j t ≡ refused (outcome.OutOfRange (i + 1))
     unfolding formedRow inRangeThen
     formedRow-out e = rw (turn n j h, sym (p .flag) ∙ e)
 
@@ -82,6 +83,6 @@ module _ (n i : ℕ) (t : List ℤ) where
   unfolding formedRows andThen
   formedRows-go h e = rw (turn n i h, e)
 
-  pub formedRows-stop : {o : Outcome} → i < n → formedRow n i n 0 t ≡ stop o → formedRows n (n - i) i t ≡ stop o
+  pub formedRows-stop : {o : Outcome} → i < n → formedRow n i n 0 t ≡ refused o → formedRows n (n - i) i t ≡ refused o
   unfolding formedRows andThen
   formedRows-stop h e = rw (turn n i h, e)

@@ -14,7 +14,8 @@ use Rattle.interval.specs.Interval.{acceptable, containsZero, inRange, quotient
 use Rattle.inputs.specs.Place.{at, put}
 use Rattle.elimination.specs.declared.internal.Usable.{Usable}
 use Rattle.elimination.specs.declared.internal.Usable.the-variants.{Yes, No}
-use Rattle.elimination.specs.Run.{Run, stop, done, andThen, inRangeThen, cell, rhs}
+use Rattle.outcome.specs.Run.{Run, refused, done, andThen}
+use Rattle.elimination.specs.Run.{inRangeThen, cell, rhs}
 use Rattle.elimination.specs.Forward.{pivoted, reduced, columns, rightSide, rows, pivots, forward}
 use Rattle.elimination.specs.Code.{Placed, usable, Kept}
 use Rattle.elimination.proofs.Value.{quotient-accepted}
@@ -40,7 +41,7 @@ module _ (n k i : ℕ) (m : Interval) (j : ℕ) (t : List ℤ) where
     unfolding columns inRangeThen
     columns-go e = rw (turn n j h, p .list, sym (p .flag) ∙ e)
 
-    pub columns-out : r ≡ false → columns n k i m (n - j) j t ≡ stop (outcome.OutOfRange (i + 1))
+    pub columns-out : r ≡ false → columns n k i m (n - j) j t ≡ refused (outcome.OutOfRange (i + 1))
     unfolding columns inRangeThen
     columns-out e = rw (turn n j h, sym (p .flag) ∙ e)
 
@@ -51,7 +52,7 @@ module _ (n k : ℕ) (p : Interval) (i : ℕ) (t : List ℤ) where
   rows-end h = let e : n - i ≡ 0 = omega arith in rw e
 
   module _ {u : Usable} {t₁ : List ℤ} (h : i < n) (q : Kept (quotient (at t (cell n i k)) p) (cell n i k) t u t₁) where
-    pub rows-no : u ≡ No → rows n k p (n - i) i t ≡ stop (outcome.OutOfRange (i + 1))
+    pub rows-no : u ≡ No → rows n k p (n - i) i t ≡ refused (outcome.OutOfRange (i + 1))
     unfolding rows inRangeThen
     rows-no e = let v = quotient (at t (cell n i k)) p in rw (turn n i h, usable-no (inRange v) v (sym (q .answer) ∙ e))
 
@@ -63,12 +64,12 @@ module _ (n k : ℕ) (p : Interval) (i : ℕ) (t : List ℤ) where
       stored : t₁ ≡ put t (cell n i k) (quotient (at t (cell n i k)) p)
       stored = q .list ∙ rw (factored .0)
 
-      pub rows-stop : {o : Outcome} → columns n k i m (n - (k + 1)) (k + 1) t₁ ≡ stop o → rows n k p (n - i) i t ≡ stop o
+      pub rows-stop : {o : Outcome} → columns n k i m (n - (k + 1)) (k + 1) t₁ ≡ refused o → rows n k p (n - i) i t ≡ refused o
       unfolding rows inRangeThen andThen
       rows-stop f = rw (turn n i h, factored .0, rw (factored .1, stored) at f)
 
       module _ {t₂ t₃ : List ℤ} {r : Bool} (f : columns n k i m (n - (k + 1)) (k + 1) t₁ ≡ done t₂) (g : Placed (reduced t₂ (rhs n i) m (rhs n k)) (rhs n i) t₂ r t₃) where
-        pub rows-out : r ≡ false → rows n k p (n - i) i t ≡ stop (outcome.OutOfRange (i + 1))
+        pub rows-out : r ≡ false → rows n k p (n - i) i t ≡ refused (outcome.OutOfRange (i + 1))
         unfolding rows inRangeThen andThen rightSide
         rows-out b = rw (turn n i h, factored .0, rw (factored .1, stored) at f, rw (factored .1) at (sym (g .flag) ∙ b))
 
@@ -94,7 +95,7 @@ module _ (n k : ℕ) (t : List ℤ) where
   pivots-end h = let e : n - k ≡ 0 = omega arith in rw e
 
   module _ {u : Usable} (h : k < n) (q : u ≡ usable (not (containsZero (at t (cell n k k)))) (at t (cell n k k))) where
-    pub pivots-no : u ≡ No → pivots n (n - k) k t ≡ stop (outcome.ContainsZero (k + 1))
+    pub pivots-no : u ≡ No → pivots n (n - k) k t ≡ refused (outcome.ContainsZero (k + 1))
     unfolding pivots pivoted andThen
     pivots-no e = let v = at t (cell n k k) in rw (turn n k h, not-false (containsZero v) (usable-no (not (containsZero v)) v (sym q ∙ e)))
 
@@ -106,7 +107,7 @@ module _ (n k : ℕ) (t : List ℤ) where
       pub pivot-apart : containsZero (at t (cell n k k)) ≡ false
       pivot-apart = let v = at t (cell n k k) in not-true (containsZero v) (usable-yes (not (containsZero v)) v p (sym q ∙ e) .0)
 
-      pub pivots-stop : {o : Outcome} → rows n k p (n - (k + 1)) (k + 1) t ≡ stop o → pivots n (n - k) k t ≡ stop o
+      pub pivots-stop : {o : Outcome} → rows n k p (n - (k + 1)) (k + 1) t ≡ refused o → pivots n (n - k) k t ≡ refused o
       unfolding pivots pivoted andThen
       pivots-stop f = rw (turn n k h, pivot-apart, rw pivot-read at f)
 
@@ -115,6 +116,6 @@ module _ (n k : ℕ) (t : List ℤ) where
       pivots-go f = rw (turn n k h, pivot-apart, rw pivot-read at f)
 
 -- the whole forward part, from the loop over the pivots
-pub forward-from : (n : ℕ) (t : List ℤ) (r : Run) → pivots n (n - 0) 0 t ≡ r → forward n t ≡ r
+pub forward-from : (n : ℕ) (t : List ℤ) (r : Run (List ℤ)) → pivots n (n - 0) 0 t ≡ r → forward n t ≡ r
 unfolding forward
 forward-from n t r e = ap (λ (d : ℕ). pivots n d 0 t) (sym (sub-zero n)) ∙ e

@@ -10,7 +10,8 @@ use Rattle.interval.specs.declared.Interval.{Interval}
 use Rattle.interval.specs.Interval.{containsZero}
 use Rattle.inputs.specs.Place.{at}
 use Rattle.inputs.proofs.Place.{at-put-other}
-use Rattle.elimination.specs.Run.{done, cell, rhs}
+use Rattle.outcome.specs.Run.{done}
+use Rattle.elimination.specs.Run.{cell, rhs}
 use Rattle.elimination.specs.Forward.{columns, rightSide, rows, pivots, forward}
 use Rattle.elimination.specs.Code.{Pivots}
 use Rattle.elimination.proofs.Index.{cell-before}

@@ -17,7 +17,7 @@ use Rattle.elimination.specs.declared.internal.Usable.the-variants.{Yes,
 use Rattle.outcome.specs.declared.Outcome.{Outcome}
 use Rattle.elimination.specs.declared.internal.Ending.{Ending}
 use Rattle.elimination.specs.declared.internal.Ending.the-variants.{Finished, Stopped}
-use Rattle.elimination.specs.Run.{Run, stop, done}
+use Rattle.outcome.specs.Run.{Run, refused, done}
 use Rattle.elimination.specs.Code.{Working, Placed, usable, Kept, Ran, runOf}
 
 module _ (v : Interval) (p : ℕ) (t : List ℤ) (s : Sound t) where
@@ -49,10 +49,10 @@ pub working-after : {n : ℕ} {t t′ : List ℤ} → Working n t → length t�
 working-after w e s = record { few = w .few; room = rw e (w .room); sound = s }
 
 -- a part of the calculation, by its ending
-pub ran-done : {run : Run} {r : Ending} {t : List ℤ} → Ran run r t → r ≡ Finished → run ≡ done t
+pub ran-done : {run : Run (List ℤ)} {r : Ending} {t : List ℤ} → Ran run r t → r ≡ Finished → run ≡ done t
 ran-done {t} p e = sym (p .is) ∙ ap (λ r. runOf r t) e
 
-pub ran-stop : {run : Run} {r : Ending} {t : List ℤ} {o : Outcome} → Ran run r t → r ≡ Stopped o → run ≡ stop o
+pub ran-stop : {run : Run (List ℤ)} {r : Ending} {t : List ℤ} {o : Outcome} → Ran run r t → r ≡ Stopped o → run ≡ refused o
 ran-stop {t} p e = sym (p .is) ∙ ap (λ r. runOf r t) e
 
 -- there is one more turn

@@ -6,14 +6,15 @@ use Rattle.interval.specs.declared.Interval.{Interval}
 use Rattle.interval.specs.Interval.{exactDifference, quotient}
 use Rattle.inputs.specs.Place.{at, put}
 use Rattle.rows.specs.Sum.{RowSum}
-use Rattle.elimination.specs.Run.{Run, done, inRangeThen, cell, rhs}
+use Rattle.outcome.specs.Run.{Run, done}
+use Rattle.elimination.specs.Run.{inRangeThen, cell, rhs}
 
 -- x(j) stands in the place of f(j), for j > i
 unfoldable pub numerator : RowSum → (n i : ℕ) → List ℤ → Interval
 numerator sum n i t = exactDifference (at t (rhs n i)) (sum t (cell n i (i + 1)) t (rhs n (i + 1)) (n - (i + 1)))
 
 -- the rows i − 1, .., 0
-unfoldable pub back : RowSum → (n i : ℕ) → List ℤ → Run
+unfoldable pub back : RowSum → (n i : ℕ) → List ℤ → Run (List ℤ)
 back sum n zero t = done t
 back sum n (suc i) t =
     inRangeThen (i + 1) (numerator sum n i t)

@@ -14,10 +14,11 @@ use Rattle.elimination.specs.declared.internal.Ending.{Ending}
 use Rattle.elimination.specs.declared.internal.Ending.the-variants.{Finished, Stopped}
 use Rattle.elimination.specs.declared.internal.Usable.{Usable}
 use Rattle.elimination.specs.declared.internal.Usable.the-variants.{Yes, No}
-use Rattle.elimination.specs.Run.{Run, stop, done, cell, rhs}
+use Rattle.outcome.specs.Run.{Run, refused, done, returned, ended}
+use Rattle.elimination.specs.Run.{cell, rhs}
 use Rattle.rows.specs.Sum.{singly}
 use Rattle.elimination.specs.Back.{numerator}
-use Rattle.elimination.specs.Call.{outcomeOf, boxAfter}
+use Rattle.elimination.specs.Call.{written}
 
 -- a working copy with room for n rows, all of it intervals
 pub record Working (n : ℕ) (t : List ℤ) : Type 0 where
@@ -55,15 +56,14 @@ pub record Solved (n i : ℕ) (before : List ℤ) (r : Bool) (after : List ℤ) 
   pub sound : Sound after
 
 -- a part of the calculation as a run
-abbrev pub runOf : Ending → List ℤ → Run
+abbrev pub runOf : Ending → List ℤ → Run (List ℤ)
 runOf Finished t = done t
-runOf (Stopped o) t = stop o
+runOf (Stopped o) t = refused o
 
-pub record Ran (run : Run) (r : Ending) (after : List ℤ) : Type 0 where
+pub record Ran (run : Run (List ℤ)) (r : Ending) (after : List ℤ) : Type 0 where
   pub is : runOf r after ≡ run
   pub sound : Sound after
 
 -- a whole calculation: its outcome and the lent box
-pub record Ended (run : Run) (r : Outcome) (before after : List ℤ) : Type 0 where
-  pub outcome : r ≡ outcomeOf run
-  pub box : after ≡ boxAfter run before
+pub record Ended (run : Run (List ℤ)) (o : Outcome) (before after : List ℤ) : Type 0 where
+  pub is : returned o 0 after ≡ ended written before run

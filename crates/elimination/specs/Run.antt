@@ -3,23 +3,14 @@ use mathlib.Core.Bool.{cond}
 use mathlib.Core.List.{List}
 use Prim.Native.Nat.{ℕ, _+_, _*_}
 use lib.IntN.{ℤ}
-use Rattle.outcome.specs.declared.Outcome.{Outcome}
 use Rattle.outcome.specs.declared.Outcome.the-variants as outcome
+use Rattle.outcome.specs.Run.{Run, refused}
 use Rattle.interval.specs.declared.Interval.{Interval}
 use Rattle.interval.specs.Interval.{inRange}
 
--- a calculation stops with an outcome, or goes on with its numbers
-pub data Run : Type 0 where
-  stop : Outcome → Run
-  done : List ℤ → Run
-
-unfoldable pub andThen : Run → (List ℤ → Run) → Run
-andThen (stop o) f = stop o
-andThen (done t) f = f t
-
 -- 'must be in the range': on with v, or 6 with this row
-unfoldable pub inRangeThen : ℕ → Interval → (Interval → Run) → Run
-inRangeThen row v f = cond (inRange v) (f v) (stop (outcome.OutOfRange row))
+unfoldable pub inRangeThen : ℕ → Interval → (Interval → Run (List ℤ)) → Run (List ℤ)
+inRangeThen row v f = cond (inRange v) (f v) (refused (outcome.OutOfRange row))
 
 -- the numbers are those of the matrix, row by row, and then those of the right side. Rows and columns count from 0 here, and the
 -- positions of their intervals too; the places of outcomes count from 1

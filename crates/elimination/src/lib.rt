@@ -4,20 +4,29 @@ use crate::internal::solve::solve;
 use crate::internal::solve::solve_balance;
 use inputs::Test;
 use inputs::internal::intervals;
-use inputs::internal::size_and_lengths;
+use inputs::internal::lengths;
+use inputs::internal::size;
 use outcome::Outcome;
 ghost use mathlib.Core.Path.{_≡_};
-ghost use lib.ListN.{length};
-ghost use Rattle.outcome.specs.Table.{paper};
-ghost use Rattle.inputs.specs.Tests.{system};
-ghost use Rattle.elimination.specs.Call.{tests, overA, overB, outcomeOf, boxAfter};
+ghost use Rattle.outcome.specs.Run.{returned};
+ghost use Rattle.inputs.specs.System.{system};
+ghost use Rattle.elimination.specs.Call.{tests, overA, overB};
 
 // The tests before the calculation.
 fn tested(n: usize, matrix: &[i64], right: &[i64], bounds: usize) -> Test
     ensures { λ r. ⌜ r ≡ tests (system n (now (matrix .entry)) (now (right .entry))) bounds ⌝ }
 {
-    let s = size_and_lengths(n, matrix.len(), right.len(), bounds);
+    let s = size(n);
     if let Test::Fail(o) = s {
+        return Test::Fail(o);
+    }
+    let slices = [
+        [1, matrix.len(), 2 * (n * n)],
+        [2, right.len(), 2 * n],
+        [3, bounds, 2 * n],
+    ];
+    let l = lengths(&slices);
+    if let Test::Fail(o) = l {
         return Test::Fail(o);
     }
     let m = intervals(matrix, n * n, 0);
@@ -29,8 +38,7 @@ fn tested(n: usize, matrix: &[i64], right: &[i64], bounds: usize) -> Test
 
 // Eliminates from A and f: bounds on the solutions of A·x = f, in the lent box.
 pub fn eliminate(n: usize, a: &[i64], f: &[i64], bounds: &mut [i64]) -> Outcome
-    ensures outcome { λ r. ⌜ paper r ≡ paper (outcomeOf (overA (system n (now (a .entry)) (now (f .entry))) (length (now (bounds .entry))))) ⌝ }
-    ensures written { λ r. ⌜ now (bounds .exit) ≡ boxAfter (overA (system n (now (a .entry)) (now (f .entry))) (length (now (bounds .entry)))) (now (bounds .entry)) ⌝ }
+    ensures { λ r. ⌜ returned r 0 (now (bounds .exit)) ≡ overA (system n (now (a .entry)) (now (f .entry))) (now (bounds .entry)) ⌝ }
 {
     match tested(n, a, f, bounds.len()) {
         Test::Pass => solve(n, a, f, bounds),
@@ -40,8 +48,7 @@ pub fn eliminate(n: usize, a: &[i64], f: &[i64], bounds: &mut [i64]) -> Outcome
 
 // Eliminates from B and b: bounds on the solutions of x = B·x + b, in the lent box.
 pub fn eliminate_balance(n: usize, b_matrix: &[i64], b: &[i64], bounds: &mut [i64]) -> Outcome
-    ensures outcome { λ r. ⌜ paper r ≡ paper (outcomeOf (overB (system n (now («b_matrix» .entry)) (now (b .entry))) (length (now (bounds .entry))))) ⌝ }
-    ensures written { λ r. ⌜ now (bounds .exit) ≡ boxAfter (overB (system n (now («b_matrix» .entry)) (now (b .entry))) (length (now (bounds .entry)))) (now (bounds .entry)) ⌝ }
+    ensures { λ r. ⌜ returned r 0 (now (bounds .exit)) ≡ overB (system n (now («b_matrix» .entry)) (now (b .entry))) (now (bounds .entry)) ⌝ }
 {
     match tested(n, b_matrix, b, bounds.len()) {
         Test::Pass => solve_balance(n, b_matrix, b, bounds),

@@ -2,3 +2,4 @@ pub mod Tests
 pub mod Place
 pub mod Copy
 pub mod Early
+pub mod System

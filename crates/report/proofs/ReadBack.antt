@@ -13,12 +13,12 @@ use lib.IntN.{ℤ, pos, negsuc}
 use lib.ListN.{length, getD, drop, replicate, drop-of-length-le}
 use lib.Seq.{drop-cons, take-append-seam, drop-append-add}
 use lib.Signed.{leZ}
-use Rattle.outcome.specs.Table.{paper}
+use Rattle.outcome.specs.Table.{numberAndPlace}
 use Rattle.interval.specs.declared.Interval.{Interval}
 use Rattle.interval.specs.Interval.{lowest, highest}
 use Rattle.interval.proofs.Range.{Within, is-sound}
 use Rattle.inputs.specs.Place.{at}
-use Rattle.inputs.specs.Tests.{System}
+use Rattle.inputs.specs.System.{System}
 use Rattle.elimination.specs.Call as elimination
 use Rattle.sweep.specs.Call.{outcomeOf, countOf, boxAfter}
 use Rattle.sweep.specs.Calls.{Call, sweepCall, answer}
@@ -219,7 +219,7 @@ in-range {z} h = go z (h .low .le) (h .high .le)
 
 module _ (s : System) (c : Call) (x : List ℤ) where
   abbrev returned : ℕ
-  returned = paper (outcomeOf (answer s c x)) .number
+  returned = numberAndPlace (outcomeOf (answer s c x)) .number
 
   abbrev box : List ℤ
   box = boxAfter (answer s c x) x
@@ -249,19 +249,19 @@ tightened-back s x = go (eqb r 0) refl (eqb r 9) refl
     k = countOf (answer s c x)
 
     go : (t : Bool) → eqb r 0 ≡ t → (u : Bool) → eqb r 9 ≡ u
-        → Back (s .size) (cond t (reached (box s c x) settled k) (cond u (reached (box s c x) spent k) (stopped (paper (outcomeOf (answer s c x))))))
+        → Back (s .size) (cond t (reached (box s c x) settled k) (cond u (reached (box s c x) spent k) (stopped (numberAndPlace (outcomeOf (answer s c x))))))
     go true e u f = box-back s c x (inl (eqb-true r 0 e))
     go false e true f = box-back s c x (inr (eqb-true r 9 f))
     go false e false f = tt
 
 solved-back : (s : System) → Back (s .size) (solved s)
 unfolding solved solvedIn
-solved-back s = go (eqb (paper (elimination.outcomeOf (eliminated s)) .number) 0)
+solved-back s = go (eqb (numberAndPlace (elimination.outcomeOf (eliminated s)) .number) 0)
   where
     x : List ℤ
     x = elimination.boxAfter (eliminated s) (replicate (2 * s .size) (pos 0))
 
-    go : (t : Bool) → Back (s .size) (cond t (tightened s x) (stopped (paper (elimination.outcomeOf (eliminated s)))))
+    go : (t : Bool) → Back (s .size) (cond t (tightened s x) (stopped (numberAndPlace (elimination.outcomeOf (eliminated s)))))
     go true = tightened-back s x
     go false = tt
 

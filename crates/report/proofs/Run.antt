@@ -9,8 +9,8 @@ use lib.ListN.{length, take, drop, replicate}
 use lib.Seq.{length-take-le}
 use Rattle.io.specs.Counts.{Counts}
 use Rattle.outcome.specs.declared.Outcome.the-variants as outcome
-use Rattle.outcome.specs.Table.{Row, paper}
-use Rattle.inputs.specs.Tests.{System, system}
+use Rattle.outcome.specs.Table.{Row, numberAndPlace}
+use Rattle.inputs.specs.System.{System, system}
 use Rattle.inputs.proofs.Copy.{fronted}
 use Rattle.elimination.specs.Call as elimination
 use Rattle.sweep.specs.Call as sweep
@@ -47,7 +47,7 @@ module _ (r : Row) (count : ℕ) (x : List ℤ) where
   concluded-refused h k = rw (ne-eqb (r .number) 0 h, ne-eqb (r .number) 9 k)
 
 module _ (names : List ℕ) (s : System) (x : List ℤ) (r : Row) (count : ℕ) (y : List ℤ)
-    (e : r ≡ paper (sweep.outcomeOf (answer s (sweepCall 100) x)))
+    (e : r ≡ numberAndPlace (sweep.outcomeOf (answer s (sweepCall 100) x)))
     (f : count ≡ sweep.countOf (answer s (sweepCall 100) x))
     (g : y ≡ sweep.boxAfter (answer s (sweepCall 100) x) x) where
   by-sweeps : {c : Calculation} → c ≡ concluded r count y → printed names (s .size) c ≡ printed names (s .size) (tightened s x)
@@ -65,23 +65,23 @@ module _ (names : List ℕ) (s : System) (x : List ℤ) (r : Row) (count : ℕ) 
 
 -- ---- by the number that the elimination returned
 module _ (names : List ℕ) (s : System) (lent : List ℤ) (r : Row) (l : length lent ≡ 2 * s .size)
-    (e : r ≡ paper (elimination.outcomeOf (elimination.overB s (length lent)))) where
-  returned : r ≡ paper (elimination.outcomeOf (eliminated s))
+    (e : r ≡ numberAndPlace (elimination.outcomeOf (elimination.overB s (length lent)))) where
+  returned : r ≡ numberAndPlace (elimination.outcomeOf (eliminated s))
   unfolding eliminated
-  returned = e ∙ ap (λ k. paper (elimination.outcomeOf (elimination.overB s k))) l
+  returned = e ∙ ap (λ k. numberAndPlace (elimination.outcomeOf (elimination.overB s k))) l
 
   pub solved-refused : (r .number ≡ 0 → ⊥) → refusal r ≡ printed names (s .size) (solvedIn s lent)
   unfolding solvedIn
   solved-refused h =
-      let k : paper (elimination.outcomeOf (eliminated s)) .number ≡ 0 → ⊥ = λ z. h (ap (λ q. q .number) returned ∙ z) in
-      ap refusal returned ∙ rw (ne-eqb (paper (elimination.outcomeOf (eliminated s)) .number) 0 k)
+      let k : numberAndPlace (elimination.outcomeOf (eliminated s)) .number ≡ 0 → ⊥ = λ z. h (ap (λ q. q .number) returned ∙ z) in
+      ap refusal returned ∙ rw (ne-eqb (numberAndPlace (elimination.outcomeOf (eliminated s)) .number) 0 k)
 
   pub solved-accepted : (x : List ℤ) → x ≡ elimination.boxAfter (elimination.overB s (length lent)) lent → r .number ≡ 0
       → printed names (s .size) (tightened s x) ≡ printed names (s .size) (solvedIn s lent)
   unfolding solvedIn eliminated
   solved-accepted x q h =
-      let z : paper (elimination.outcomeOf (eliminated s)) .number ≡ 0 = ap (λ m. m .number) (sym returned) ∙ h in
-      ap (λ y. printed names (s .size) (tightened s y)) (q ∙ ap (λ k. elimination.boxAfter (elimination.overB s k) lent) l) ∙ rw (eq-eqb (paper (elimination.outcomeOf (eliminated s)) .number) 0 z)
+      let z : numberAndPlace (elimination.outcomeOf (eliminated s)) .number ≡ 0 = ap (λ m. m .number) (sym returned) ∙ h in
+      ap (λ y. printed names (s .size) (tightened s y)) (q ∙ ap (λ k. elimination.boxAfter (elimination.overB s k) lent) l) ∙ rw (eq-eqb (numberAndPlace (elimination.outcomeOf (eliminated s)) .number) 0 z)
 
 -- ---- the lent noughts
 take-replicate : (k m : ℕ) → k ≤ m → take k (replicate m (pos 0)) ≡ replicate k (pos 0)
@@ -98,7 +98,7 @@ solved-parts names n t h =
 
 -- ---- by what the text was read as
 module _ (text : List ℕ) (t : List ℤ) {r : code.Reading} (e : readingIs text r t ≡ reading text) where
-  pub sheet-refused : {k : ℕ} → r ≡ whole.Faulty k → refusal (paper (outcome.Text k)) ≡ sheet text
+  pub sheet-refused : {k : ℕ} → r ≡ whole.Faulty k → refusal (numberAndPlace (outcome.Text k)) ≡ sheet text
   unfolding sheet
   sheet-refused f = ap sheetOf (ap (λ q. readingIs text q t) (sym f) ∙ e)
 
@@ -109,12 +109,12 @@ module _ (text : List ℕ) (t : List ℤ) {r : code.Reading} (e : readingIs text
 -- ---- the call, by the length of out
 module _ (text out : List ℕ) where
   abbrev Answers : Row → ℕ → List ℕ → Type 0
-  Answers r k after = (r ≡ paper (outcomeOf (length out))) × ((k ≡ countOf text (length out)) × ((after ≡ outAfter text out) × Counts k after))
+  Answers r k after = (r ≡ numberAndPlace (outcomeOf (length out))) × ((k ≡ countOf text (length out)) × ((after ≡ outAfter text out) × Counts k after))
 
-  pub report-refused : (length out ≡ 2048 → ⊥) → Answers (paper (outcome.Length 3)) 0 out
+  pub report-refused : (length out ≡ 2048 → ⊥) → Answers (numberAndPlace (outcome.Length 3)) 0 out
   unfolding outcomeOf countOf outAfter
   report-refused h = rw (ne-eqb (length out) 2048 h) (refl, (refl, (refl, (omega arith, refl))))
 
-  pub report-written : {after : List ℕ} {k : ℕ} → length out ≡ 2048 → Sheet out (sheet text) after k → Answers (paper outcome.Done) k after
+  pub report-written : {after : List ℕ} {k : ℕ} → length out ≡ 2048 → Sheet out (sheet text) after k → Answers (numberAndPlace outcome.Done) k after
   unfolding outcomeOf countOf outAfter written
   report-written {after} {k} h w = rw (eq-eqb (length out) 2048 h) (refl, (w .whole, (w .bytes ∙ fronted out (sheet text), (w .inside, sym (length-take-le k after (w .inside))))))

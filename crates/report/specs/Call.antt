@@ -7,9 +7,9 @@ use lib.IntN.{ℤ, pos}
 use lib.ListN.{length, drop, replicate}
 use Rattle.outcome.specs.declared.Outcome.{Outcome}
 use Rattle.outcome.specs.declared.Outcome.the-variants as outcome
-use Rattle.outcome.specs.Table.{Row, paper}
-use Rattle.inputs.specs.Tests.{System}
-use Rattle.elimination.specs.Run.{Run}
+use Rattle.outcome.specs.Table.{Row, numberAndPlace}
+use Rattle.inputs.specs.System.{System}
+use Rattle.outcome.specs.Run.{Run}
 use Rattle.elimination.specs.Call as elimination
 use Rattle.sweep.specs.Call as sweep
 use Rattle.sweep.specs.Calls.{sweepCall, answer}
@@ -28,7 +28,7 @@ concluded r count x = cond (eqb (r .number) 0) (reached x settled count) (cond (
 -- 'sweeps with 100 allowed', from the box of the elimination
 unfoldable pub tightened : System → (box : List ℤ) → Calculation
 tightened s x =
-    concluded (paper (sweep.outcomeOf (answer s (sweepCall 100) x)))
+    concluded (numberAndPlace (sweep.outcomeOf (answer s (sweepCall 100) x)))
     (sweep.countOf (answer s (sweepCall 100) x))
     (sweep.boxAfter (answer s (sweepCall 100) x) x)
 
@@ -38,9 +38,9 @@ eliminated s = elimination.overB s (2 * s .size)
 
 unfoldable pub solvedIn : System → (lent : List ℤ) → Calculation
 solvedIn s lent =
-    cond (eqb (paper (elimination.outcomeOf (eliminated s)) .number) 0)
+    cond (eqb (numberAndPlace (elimination.outcomeOf (eliminated s)) .number) 0)
     (tightened s (elimination.boxAfter (eliminated s) lent))
-    (stopped (paper (elimination.outcomeOf (eliminated s))))
+    (stopped (numberAndPlace (elimination.outcomeOf (eliminated s))))
 
 -- the lent box holds noughts; the call does not read them
 unfoldable pub solved : System → Calculation
@@ -51,7 +51,7 @@ printed names n (stopped r) = refusal r
 printed names n (reached x word count) = calculated names n x word count
 
 abbrev pub sheetOf : Reading → List ℕ
-sheetOf (fault k) = refusal (paper (outcome.Text k))
+sheetOf (fault k) = refusal (numberAndPlace (outcome.Text k))
 sheetOf (balance names s) = printed names (s .size) (solved s)
 
 -- the bytes that 'balance' prints for a text

@@ -5,7 +5,7 @@ use Prim.Native.Nat.{ℕ, _*_, _≤_, _<_}
 use lib.IntN.{ℤ, natAbs}
 use lib.ListN.{length}
 use Rattle.inputs.specs.Place.{at}
-use Rattle.inputs.specs.Tests.{System}
+use Rattle.inputs.specs.System.{System}
 use Rattle.text.specs.declared.internal.number.Number.the-variants.{Units}
 use Rattle.text.specs.Parts.{parts, part}
 use Rattle.text.specs.Number.{number, read, values}

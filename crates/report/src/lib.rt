@@ -6,7 +6,7 @@ use outcome::Outcome;
 ghost use mathlib.Core.Path.{_≡_};
 ghost use lib.ListN.{length};
 ghost use Rattle.io.specs.Counts.{Counts};
-ghost use Rattle.outcome.specs.Table.{paper};
+ghost use Rattle.outcome.specs.Table.{numberAndPlace};
 ghost use Rattle.report.specs.Call.{outcomeOf, countOf, outAfter};
 
 // What a report returns: its outcome, and how many bytes were written.
@@ -17,7 +17,7 @@ pub struct Written {
 
 // Writes to the beginning of out what the program 'balance' prints for a text.
 pub fn report(text: &[u8], out: &mut [u8]) -> Written
-    ensures outcome { λ r. ⌜ paper (r .outcome) ≡ paper (outcomeOf (length (now (out .entry)))) ⌝ }
+    ensures outcome { λ r. ⌜ numberAndPlace (r .outcome) ≡ numberAndPlace (outcomeOf (length (now (out .entry)))) ⌝ }
     ensures counted { λ r. ⌜ r .count ≡ countOf (now (text .entry)) (length (now (out .entry))) ⌝ }
     ensures written { λ r. ⌜ now (out .exit) ≡ outAfter (now (text .entry)) (now (out .entry)) ⌝ }
     ensures inside { λ r. ⌜ Counts (r .count) (now (out .exit)) ⌝ }

@@ -7,7 +7,8 @@ use Rattle.interval.specs.Answer.{tested, ranged}
 use Rattle.inputs.specs.Place.{at, put}
 use Rattle.inputs.specs.Tests.{both, need, sized, lengths, sizes, proper, allProper}
 use Rattle.rows.specs.Sum.{summed, singly}
-use Rattle.elimination.specs.Run.{andThen, inRangeThen}
+use Rattle.outcome.specs.Run.{andThen}
+use Rattle.elimination.specs.Run.{inRangeThen}
 use Rattle.elimination.specs.Forward.{pivoted, columns, rightSide, rows, pivots, forward}
 use Rattle.elimination.specs.Back.{numerator, back}
 use Rattle.elimination.specs.Formed.{identity, formedRow, formedRows}

@@ -1,4 +1,4 @@
--- Document 01, Samples: the starred lines, in its sequence, as one small table of what the definitions give and what the paper lists.
+-- Document 01, Samples: the starred lines, in its sequence, as one small table of what the definitions give and what the numberAndPlace lists.
 use mathlib.Core.Path.{_≡_}
 use mathlib.Core.List.{List, [], _∷_}
 use Prim.Native.Nat.{ℕ, _*_}
@@ -6,10 +6,11 @@ use lib.IntN.{ℤ, pos, negℤ}
 use Rattle.interval.specs.declared.Interval.{Interval}
 use Rattle.interval.specs.Interval.{ends, point}
 use Rattle.interval.specs.Answer.{Answer, sumAnswer, productAnswer, quotientAnswer}
-use Rattle.outcome.specs.Table.{paper}
-use Rattle.inputs.specs.Tests.{System}
+use Rattle.outcome.specs.Table.{numberAndPlace}
+use Rattle.inputs.specs.System.{System}
 use Rattle.inputs.specs.Place.{at}
-use Rattle.elimination.specs.Run.{Run, done, andThen, cell}
+use Rattle.outcome.specs.Run.{Run, done, andThen}
+use Rattle.elimination.specs.Run.{cell}
 use Rattle.elimination.specs.Forward.{forward}
 use Rattle.elimination.specs.Call.{copied, overA, overB, outcomeOf, boxAfter}
 use Rattle.sweep.specs.Call as sweep
@@ -38,7 +39,7 @@ refuses a number = record { calculated = step a; listed = record { number = numb
 
 -- ---- elimination
 abbrev eliminated : Run → Result
-eliminated r = record { number = paper (outcomeOf r) .number; place = paper (outcomeOf r) .place; count = 0; bounds = boxAfter r [] }
+eliminated r = record { number = numberAndPlace (outcomeOf r) .number; place = numberAndPlace (outcomeOf r) .place; count = 0; bounds = boxAfter r [] }
 
 abbrev solves : Run → List ℤ → Line
 solves r x = record { calculated = eliminated r; listed = record { number = 0; place = 0; count = 0; bounds = x } }
@@ -52,7 +53,7 @@ thirdPivot s = andThen (forward 3 (copied s)) (λ t. done (at t (cell 3 2 2) .lo
 
 -- ---- sweeps
 abbrev swept : sweep.Answer → List ℤ → Result
-swept a x = record { number = paper (sweep.outcomeOf a) .number; place = paper (sweep.outcomeOf a) .place; count = sweep.countOf a; bounds = sweep.boxAfter a x }
+swept a x = record { number = numberAndPlace (sweep.outcomeOf a) .number; place = numberAndPlace (sweep.outcomeOf a) .place; count = sweep.countOf a; bounds = sweep.boxAfter a x }
 
 abbrev sweeps : System → (allowed : ℕ) → List ℤ → Result → Line
 sweeps s k x r = record { calculated = swept (answer s (sweepCall k) x) x; listed = r }
@@ -129,7 +130,7 @@ table =
     ∷ sweeps input 3 startsApart (record { number = 7; place = 1; count = 0; bounds = startsApart })
     ∷ []
 
--- in each line the calculation gives what the paper lists
+-- in each line the calculation gives what the numberAndPlace lists
 abbrev EachAgrees : List Line → Type 0
 EachAgrees [] = Unit {0}
 EachAgrees (l ∷ ls) = (l .calculated ≡ l .listed) × EachAgrees ls

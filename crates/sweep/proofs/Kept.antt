@@ -9,13 +9,13 @@ use native.Mathlib.Nat.{zero-add}
 use borrow.Author.Tests.{ne-eqb}
 use lib.IntN.{ℤ}
 use Rattle.outcome.specs.declared.Outcome.{Outcome}
-use Rattle.outcome.specs.Table.{paper}
+use Rattle.outcome.specs.Table.{numberAndPlace}
 use Rattle.interval.specs.declared.Interval.{Interval}
 use Rattle.interval.specs.Interval.{isEmpty}
 use Rattle.inputs.specs.declared.Test.{Test}
 use Rattle.inputs.specs.declared.Test.the-variants.{Pass, Fail}
 use Rattle.inputs.specs.Place.{at, put}
-use Rattle.inputs.specs.Tests.{System, system}
+use Rattle.inputs.specs.System.{System, system}
 use Rattle.inputs.proofs.Tests.{both-pass, sizes-pass}
 use Rattle.inputs.proofs.Early.{Early, parts, early-sizes, early-all, early-number}
 use Rattle.rows.specs.Sum.{singly}
@@ -66,16 +66,16 @@ unfolding tests allowance
 early-tests s k x = search (parts, early-sizes, early-all)
 
 pub refused-not-empty : (s : System) (k : ℕ) (x : List ℤ) {o : Outcome} → tests s k x ≡ Fail o → saysEmpty (refused o) ≡ false
-refused-not-empty s k x {o} e = ne-eqb (paper o .number) 7 (omega (arith, early-number (early-tests s k x) e))
+refused-not-empty s k x {o} e = ne-eqb (numberAndPlace o .number) 7 (omega (arith, early-number (early-tests s k x) e))
 
 -- ---- a call that said 0 or 9 has passed them
-pub answer-keeps : (s : System) (c : Call) (x : List ℤ) → (paper (outcomeOf (answer s c x)) .number ≡ 0) ⊎ (paper (outcomeOf (answer s c x)) .number ≡ 9)
+pub answer-keeps : (s : System) (c : Call) (x : List ℤ) → (numberAndPlace (outcomeOf (answer s c x)) .number ≡ 0) ⊎ (numberAndPlace (outcomeOf (answer s c x)) .number ≡ 9)
     → (1 ≤ s .size) × Ready (s .size) (s .matrix) (s .right) (boxAfter (answer s c x) x)
 unfolding answer tested tests
 answer-keeps s (sweepCall k) x e = go (tests s k x) refl (early-tests s k x) e
   where
     go : (t : Test) → tests s k x ≡ t → Early t
-        → (paper (outcomeOf (tested t (sweeps (sweep singly s) k x))) .number ≡ 0) ⊎ (paper (outcomeOf (tested t (sweeps (sweep singly s) k x))) .number ≡ 9)
+        → (numberAndPlace (outcomeOf (tested t (sweeps (sweep singly s) k x))) .number ≡ 0) ⊎ (numberAndPlace (outcomeOf (tested t (sweeps (sweep singly s) k x))) .number ≡ 9)
         → (1 ≤ s .size) × Ready (s .size) (s .matrix) (s .right) (boxAfter (tested t (sweeps (sweep singly s) k x)) x)
     go Pass f h e = let w = ready (s .size) (s .matrix) (s .right) k x f in (sizes-pass _ _ _ _ (both-pass _ _ f .0) .some, sweeps-keep (s .size) (s .matrix) (s .right) k x x w w)
     go (Fail o) f h (inl e) = absurd (omega (arith, early-number h refl))

@@ -9,7 +9,7 @@ use lib.Dec.{T}
 use lib.IntN.{ℤ}
 use lib.ListN.{length, take, drop}
 use lib.Seq.{take-length}
-use Rattle.outcome.specs.Table.{paper}
+use Rattle.outcome.specs.Table.{numberAndPlace}
 use Rattle.outcome.specs.declared.Outcome.{Outcome}
 use Rattle.outcome.specs.declared.Outcome.the-variants as outcome
 use Rattle.inputs.specs.declared.Test.{Test}
@@ -131,10 +131,10 @@ module _ {l : Log} {lent : List ℤ} {r : Sweeps} {y : List ℤ} (h : Logged l l
 
 -- ---- a call, after its tests
 module _ (t : Test) (l : Log) (x : List ℤ) where
-  pub call-runs : {r : Swept} {y : List ℤ} → t ≡ Pass → Ran l x r y → (paper (r .outcome) ≡ paper (outcomeOf (tested t l))) × ((r .count ≡ countOf (tested t l)) × (y ≡ boxAfter (tested t l) x))
+  pub call-runs : {r : Swept} {y : List ℤ} → t ≡ Pass → Ran l x r y → (numberAndPlace (r .outcome) ≡ numberAndPlace (outcomeOf (tested t l))) × ((r .count ≡ countOf (tested t l)) × (y ≡ boxAfter (tested t l) x))
   unfolding tested
-  call-runs e h = rw e (ap paper (h .outcome), (h .counted, h .box))
+  call-runs e h = rw e (ap numberAndPlace (h .outcome), (h .counted, h .box))
 
-  pub call-fails : {o : Outcome} → t ≡ Fail o → (paper o ≡ paper (outcomeOf (tested t l))) × ((0 ≡ countOf (tested t l)) × (x ≡ boxAfter (tested t l) x))
+  pub call-fails : {o : Outcome} → t ≡ Fail o → (numberAndPlace o ≡ numberAndPlace (outcomeOf (tested t l))) × ((0 ≡ countOf (tested t l)) × (x ≡ boxAfter (tested t l) x))
   unfolding tested
   call-fails e = rw e (refl, (refl, refl))

@@ -13,7 +13,7 @@ use Rattle.interval.specs.declared.Interval.{Interval}
 use Rattle.interval.specs.Interval.{acceptable, exactSum, intersection, isEmpty}
 use Rattle.interval.specs.Code.{Representable}
 use Rattle.interval.proofs.Range.{is-sound, sound-accepted}
-use Rattle.inputs.specs.Tests.{System, system}
+use Rattle.inputs.specs.System.{System, system}
 use Rattle.inputs.specs.Place.{at, put}
 use Rattle.inputs.specs.Code.{Sound}
 use Rattle.inputs.proofs.Place.{length-put, sound-put}

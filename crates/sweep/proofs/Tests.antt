@@ -11,7 +11,8 @@ use Rattle.outcome.specs.declared.Outcome.{Outcome}
 use Rattle.outcome.specs.declared.Outcome.the-variants as outcome
 use Rattle.interval.proofs.Range.{and-both}
 use Rattle.inputs.specs.declared.Test.the-variants.{Pass, Fail}
-use Rattle.inputs.specs.Tests.{system, both, need, sizes, proper, allProper}
+use Rattle.inputs.specs.System.{system}
+use Rattle.inputs.specs.Tests.{both, need, sizes, proper, allProper}
 use Rattle.inputs.proofs.Tests.{both-pass, both-last, need-pass, sizes-pass}
 use Rattle.inputs.proofs.Place.{proper-sound}
 use Rattle.sweep.specs.Call.{allowance, tests}

@@ -9,7 +9,8 @@ use Rattle.outcome.specs.declared.Outcome.{Outcome}
 use Rattle.outcome.specs.declared.Outcome.the-variants as outcome
 use Rattle.inputs.specs.declared.Test.{Test}
 use Rattle.inputs.specs.declared.Test.the-variants.{Pass, Fail}
-use Rattle.inputs.specs.Tests.{System, both, need, sizes, allProper}
+use Rattle.inputs.specs.System.{System}
+use Rattle.inputs.specs.Tests.{both, need, sizes, allProper}
 use Rattle.sweep.specs.Pass as pass
 
 -- what the sweeps of a call do, in sequence: each whole one with the box that it leaves, and how they end

@@ -4,8 +4,8 @@ use mathlib.Core.List.{List, [], _∷_, _++_}
 use Prim.Native.Nat.{ℕ}
 use lib.Dec.{eqb}
 use lib.IntN.{ℤ}
-use Rattle.outcome.specs.Table.{paper}
-use Rattle.inputs.specs.Tests.{System}
+use Rattle.outcome.specs.Table.{numberAndPlace}
+use Rattle.inputs.specs.System.{System}
 use Rattle.rows.specs.Sum.{singly}
 use Rattle.sweep.specs.Pass.{sweep}
 use Rattle.sweep.specs.Call.{Log, emptied, settled, spent, swept, sweeps, tests, Answer, refused, ran, tested, last, outcomeOf, boxAfter}
@@ -40,7 +40,7 @@ changes s (c ∷ cs) X = callChanges (answer s c X) X ++ changes s cs (boxAfter 
 
 -- ''Empty' is 7': a call that returns it, and a list with such a call
 abbrev pub saysEmpty : Answer → Bool
-saysEmpty a = eqb (paper (outcomeOf a) .number) 7
+saysEmpty a = eqb (numberAndPlace (outcomeOf a) .number) 7
 
 unfoldable pub anyEmpty : System → List Call → List ℤ → Bool
 anyEmpty s [] X = false

@@ -7,7 +7,7 @@ use lib.Signed.{ltZ}
 use Rattle.interval.specs.declared.Interval.{Interval}
 use Rattle.interval.specs.Interval.{exactSum, intersection, isEmpty}
 use Rattle.inputs.specs.Place.{at, put}
-use Rattle.inputs.specs.Tests.{System}
+use Rattle.inputs.specs.System.{System}
 use Rattle.rows.specs.Sum.{RowSum}
 
 -- a sweep stops at an empty intersection, with its component from 1, or is whole: whether it changed an end, and the box

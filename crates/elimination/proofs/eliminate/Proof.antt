@@ -1,6 +1,6 @@
 use borrow.Author.Needs.{needs}
 use mathlib.Core.Path.{sym, _∙_}
-use Rattle.elimination.specs.Call.{overA}
+use Rattle.elimination.specs.Call.{runA}
 use Rattle.elimination.proofs.Call.{call-runs, call-fails}
 use Rattle.elimination.proofs.eliminate.Statement.{statement}
 use Rattle.elimination.proofs.eliminate.Tie as tie
@@ -21,12 +21,12 @@ same-length : tie.Need-same-length
 same-length c = search needs
 
 returns : tie.Need-returns
-unfolding overA
-returns c = call-runs _ _ _ (sym (c .before .before .before .before .before .tested .ensures) ∙ c .before .before .before .enum-told .given .1) (c .before .solve .ensures)
+unfolding runA
+returns c = (call-runs _ _ _ (sym (c .before .before .before .before .before .tested .ensures) ∙ c .before .before .before .enum-told .given .1) (c .before .solve .ensures)) .is
 
 returns-2 : tie.Need-returns-2
-unfolding overA
-returns-2 c = call-fails _ _ _ (sym (c .before .before .before .tested .ensures) ∙ c .before .o .given .1)
+unfolding runA
+returns-2 c = (call-fails _ _ _ (sym (c .before .before .before .tested .ensures) ∙ c .before .o .given .1)) .is
 
 pub eliminate-spec : {M : Type 1} → statement M
 eliminate-spec =

@@ -1,6 +1,6 @@
 use borrow.Author.Needs.{needs}
 use mathlib.Core.Path.{sym, _∙_}
-use Rattle.elimination.specs.Call.{overB}
+use Rattle.elimination.specs.Call.{runB}
 use Rattle.elimination.proofs.Call.{call-runs, call-fails}
 use Rattle.elimination.proofs.eliminate_balance.Statement.{statement}
 use Rattle.elimination.proofs.eliminate_balance.Tie as tie
@@ -21,12 +21,12 @@ same-length : tie.Need-same-length
 same-length c = search needs
 
 returns : tie.Need-returns
-unfolding overB
-returns c = call-runs _ _ _ (sym (c .before .before .before .before .before .tested .ensures) ∙ c .before .before .before .enum-told .given .1) (c .before .solve-balance .ensures)
+unfolding runB
+returns c = (call-runs _ _ _ (sym (c .before .before .before .before .before .tested .ensures) ∙ c .before .before .before .enum-told .given .1) (c .before .solve-balance .ensures)) .is
 
 returns-2 : tie.Need-returns-2
-unfolding overB
-returns-2 c = call-fails _ _ _ (sym (c .before .before .before .tested .ensures) ∙ c .before .o .given .1)
+unfolding runB
+returns-2 c = (call-fails _ _ _ (sym (c .before .before .before .tested .ensures) ∙ c .before .o .given .1)) .is
 
 pub eliminate-balance-spec : {M : Type 1} → statement M
 eliminate-balance-spec =

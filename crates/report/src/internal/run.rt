@@ -8,7 +8,7 @@ use text::internal::lines::read_text;
 ghost use mathlib.Core.Path.{_≡_};
 ghost use Prim.Native.Nat.{_*_, _≤_};
 ghost use lib.ListN.{length};
-ghost use Rattle.inputs.specs.Tests.{system};
+ghost use Rattle.inputs.specs.System.{system};
 ghost use Rattle.text.specs.Code.{systemOf};
 ghost use Rattle.report.specs.Call.{tightened, solvedIn, solved, printed, sheet};
 ghost use Rattle.report.specs.Code.{Sheet};

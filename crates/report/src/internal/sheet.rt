@@ -8,7 +8,7 @@ use outcome::Outcome;
 ghost use mathlib.Core.Path.{_≡_};
 ghost use Prim.Native.Nat.{_+_, _*_, _≤_};
 ghost use lib.ListN.{length};
-ghost use Rattle.outcome.specs.Table.{paper};
+ghost use Rattle.outcome.specs.Table.{numberAndPlace};
 ghost use Rattle.report.specs.Sheet.{bound, bounds, counted, calculated, refusal};
 ghost use Rattle.report.specs.Code.{written, Put, ending};
 
@@ -83,8 +83,8 @@ pub fn put_calculated(
 // Puts the line of a refusal at the beginning of out.
 pub fn put_refusal(out: &mut [u8], o: Outcome) -> usize
     requires { ⌜ length (now out) ≡ 2048 ⌝ }
-    ensures { λ r. ⌜ r ≡ length (refusal (paper o)) ⌝ }
-    ensures { λ r. ⌜ now (out .exit) ≡ written (now (out .entry)) 0 (refusal (paper o)) ⌝ }
+    ensures { λ r. ⌜ r ≡ length (refusal (numberAndPlace o)) ⌝ }
+    ensures { λ r. ⌜ now (out .exit) ≡ written (now (out .entry)) 0 (refusal (numberAndPlace o)) ⌝ }
     ensures { λ r. ⌜ r ≤ length (now (out .exit)) ⌝ }
 {
     let number = put(out, 0, b"refused ");

@@ -7,7 +7,7 @@ ghost use mathlib.Core.Path.{_≡_};
 ghost use Prim.Native.Nat.{_*_, _≤_};
 ghost use lib.ListN.{length};
 ghost use Rattle.inputs.specs.declared.Test.the-variants.{Pass};
-ghost use Rattle.inputs.specs.Tests.{system};
+ghost use Rattle.inputs.specs.System.{system};
 ghost use Rattle.rows.specs.Sum.{singly};
 ghost use Rattle.sweep.specs.Pass.{sweep};
 ghost use Rattle.sweep.specs.Call.{sweeps, tests};

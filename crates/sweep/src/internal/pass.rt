@@ -8,7 +8,7 @@ use rows::internal::row_sum;
 ghost use mathlib.Core.Path.{_≡_};
 ghost use mathlib.Core.Bool.{_||_};
 ghost use Prim.Native.Nat.{_<_};
-ghost use Rattle.inputs.specs.Tests.{system};
+ghost use Rattle.inputs.specs.System.{system};
 ghost use Rattle.rows.specs.Sum.{singly};
 ghost use Rattle.sweep.specs.Pass.{component, differs, sweep};
 ghost use Rattle.sweep.specs.Code.{Ready, Passed};

@@ -3,7 +3,7 @@ use inputs::internal::intervals;
 use inputs::internal::size_and_lengths;
 use outcome::Outcome;
 ghost use mathlib.Core.Path.{_≡_};
-ghost use Rattle.inputs.specs.Tests.{system};
+ghost use Rattle.inputs.specs.System.{system};
 ghost use Rattle.sweep.specs.Call.{allowance, tests};
 
 // Test 4, of the sweeps allowed.

@@ -8,7 +8,7 @@ use denote.Ref.{now}
 use mathlib.Core.Bool.{true, false}
 use Rattle.outcome.specs.declared.Outcome.{Outcome}
 use Rattle.interval.specs.Interval.{acceptable, containsZero}
-use Rattle.elimination.specs.Run.{stop}
+use Rattle.outcome.specs.Run.{refused}
 use Rattle.elimination.specs.Forward.{columns, rows, pivots, forward}
 use Rattle.elimination.specs.declared.internal.Ending.{Ending}
 use Rattle.elimination.specs.Code.{Working, runOf}
@@ -77,7 +77,7 @@ factor-good y =
     Forward.factor-accepted _ _ _ _ _ _ _ _ (y .before .before .before .before .factor .ensures) (y .before .m .given .1) (at-rows y .loop .inv .2 .sound .each _) (g .0) (g .1)
 
 -- ---- a refusal below is the refusal of the whole
-step-stop : (x : InStep) (o : Outcome) → rows (at-start x .args .n) (at-pivots x .pivots .k) (x .before .p .given .0 .0) (at-start x .args .n - (at-pivots x .pivots .k + 1)) (at-pivots x .pivots .k + 1) (at-pivots x .pivots .t) ≡ stop o → forward (at-start x .args .n) (now (at-start x .args .t)) ≡ stop o
+step-stop : (x : InStep) (o : Outcome) → rows (at-start x .args .n) (at-pivots x .pivots .k) (x .before .p .given .0 .0) (at-start x .args .n - (at-pivots x .pivots .k + 1)) (at-pivots x .pivots .k + 1) (at-pivots x .pivots .t) ≡ refused o → forward (at-start x .args .n) (now (at-start x .args .t)) ≡ refused o
 step-stop x o e =
     Forward.forward-from _ _ _ (at-pivots x .pivots .inv .4 ∙ Forward.pivots-stop _ _ _ (below x) (x .before .before .before .pivot .ensures) (x .before .p .given .1) e)
 

@@ -1,7 +1,7 @@
 use borrow.Author.Needs.{needs}
 use mathlib.Core.Path.{_≡_}
 use denote.Ref.{now}
-use Rattle.elimination.specs.Run.{done}
+use Rattle.outcome.specs.Run.{done}
 use Rattle.elimination.specs.Forward.{forward}
 use Rattle.elimination.proofs.Kept.{forward-pivots}
 use Rattle.elimination.proofs.Step.{ran-done, ran-stop, working-after}

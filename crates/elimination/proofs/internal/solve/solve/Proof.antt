@@ -4,6 +4,7 @@ use mathlib.Core.List.{List}
 use denote.Ref.{now}
 use lib.IntN.{ℤ}
 use lib.ListN.{length}
+use Rattle.inputs.specs.System.{system}
 use Rattle.rows.specs.Sum.{singly}
 use Rattle.elimination.specs.Call.{copied, solved}
 use Rattle.elimination.specs.Code.{Working, Ended}
@@ -12,18 +13,18 @@ use Rattle.elimination.proofs.internal.solve.solve.Statement.{statement
 use Rattle.elimination.proofs.internal.solve.solve.Tie as tie
 
 -- the tests have passed
-is-ready : (s : tie.Start) → Ready (s .args .n) (now (s .args .a)) (now (s .args .f)) (length (now (s .args .bounds)))
-is-ready s = ready _ _ _ _ (s .pre)
+is-ready : (s : tie.Start) → Ready (system (s .args .n) (now (s .args .a)) (now (s .args .f))) (length (now (s .args .bounds)))
+is-ready s = ready _ _ (s .pre)
 
 working : (c : tie.After-copy-in) → Working (c .before .before .args .n) (c .copy-in .last .0)
 unfolding copied
-working c = rw (c .copy-in .ensures) (copied-working _ _ _ _ (is-ready (c .before .before)))
+working c = rw (c .copy-in .ensures) (copied-working _ _ (is-ready (c .before .before)))
 
 slice-aggregate-copy-in : tie.Need-slice-aggregate-copy-in
 slice-aggregate-copy-in c = search needs
 
 copy-in-requires : tie.Need-copy-in-requires
-copy-in-requires c κs = copied-fits _ _ _ _ (is-ready (c .before))
+copy-in-requires c κs = copied-fits _ _ (is-ready (c .before))
 
 slice-aggregate-finish : tie.Need-slice-aggregate-finish
 slice-aggregate-finish c = search needs

@@ -5,7 +5,7 @@ use denote.Ref.{now}
 use lib.IntN.{ℤ}
 use lib.ListN.{length}
 use Rattle.elimination.specs.Formed.{formedRows}
-use Rattle.inputs.specs.Tests.{system}
+use Rattle.inputs.specs.System.{system}
 use Rattle.elimination.specs.Call.{copied}
 use Rattle.elimination.specs.Code.{Working, Ran}
 use Rattle.elimination.proofs.Step.{working-after, ran-done, ran-stop}
@@ -14,12 +14,12 @@ use Rattle.elimination.proofs.internal.solve.solve_balance.Statement.{s
 use Rattle.elimination.proofs.internal.solve.solve_balance.Tie as tie
 
 -- the tests have passed
-is-ready : (s : tie.Start) → Ready (s .args .n) (now (s .args .b-matrix)) (now (s .args .b)) (length (now (s .args .bounds)))
-is-ready s = ready _ _ _ _ (s .pre)
+is-ready : (s : tie.Start) → Ready (system (s .args .n) (now (s .args .b-matrix)) (now (s .args .b))) (length (now (s .args .bounds)))
+is-ready s = ready _ _ (s .pre)
 
 working : (c : tie.After-copy-in) → Working (c .before .before .args .n) (c .copy-in .last .0)
 unfolding copied
-working c = rw (c .copy-in .ensures) (copied-working _ _ _ _ (is-ready (c .before .before)))
+working c = rw (c .copy-in .ensures) (copied-working _ _ (is-ready (c .before .before)))
 
 -- I − B is formed from the copy
 formed : (c : tie.After-formed-rows) → let s = c .before .before .before .before .before in Ran (formedRows (s .args .n) (s .args .n) 0 (copied (system (s .args .n) (now (s .args .b-matrix)) (now (s .args .b))))) (c .formed-rows .result) (c .formed-rows .last .1 .0)
@@ -32,7 +32,7 @@ slice-aggregate-copy-in : tie.Need-slice-aggregate-copy-in
 slice-aggregate-copy-in c = search needs
 
 copy-in-requires : tie.Need-copy-in-requires
-copy-in-requires c κs = copied-fits _ _ _ _ (is-ready (c .before))
+copy-in-requires c κs = copied-fits _ _ (is-ready (c .before))
 
 slice-aggregate-formed-rows : tie.Need-slice-aggregate-formed-rows
 slice-aggregate-formed-rows c = search needs

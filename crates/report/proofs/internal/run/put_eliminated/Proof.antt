@@ -1,7 +1,7 @@
 use mathlib.Core.Path.{sym, _∙_}
 use borrow.Author.Needs.{needs}
-use Rattle.inputs.specs.Tests.{system}
-use Rattle.outcome.specs.Table.{paper}
+use Rattle.inputs.specs.System.{system}
+use Rattle.outcome.specs.Table.{numberAndPlace}
 use Rattle.report.proofs.Run.{sheet-is, sheet-too, solved-accepted, solved-refused}
 use Rattle.report.proofs.internal.run.put_eliminated.Statement.{statement}
 use Rattle.report.proofs.internal.run.put_eliminated.Tie as tie
@@ -28,7 +28,7 @@ returns c =
     let n = t .before in
     let w = n .before .before in
     let a = w .before .before .before .before in
-    sheet-too (solved-accepted (a .args .names .now) (system (a .args .n) (a .args .matrix .now) (a .args .right .now)) (a .args .bounds .now) (paper (w .eliminate-balance .result)) (a .pre .1 .2) (w .eliminate-balance .ensures .0) _ (w .eliminate-balance .ensures .1) (sym (n .number .ensures) ∙ t .if1 .taken)) (p .put-swept .ensures)
+    sheet-too (solved-accepted (a .args .names .now) (system (a .args .n) (a .args .matrix .now) (a .args .right .now)) (a .args .bounds .now) (numberAndPlace (w .eliminate-balance .result)) (a .pre .1 .2) (w .eliminate-balance .ensures .0) _ (w .eliminate-balance .ensures .1) (sym (n .number .ensures) ∙ t .if1 .taken)) (p .put-swept .ensures)
 
 put-refusal-requires : tie.Need-put-refusal-requires
 put-refusal-requires c κs = search needs
@@ -46,7 +46,7 @@ returns-2 c =
     let n = e .before in
     let w = n .before .before in
     let a = w .before .before .before .before in
-    sheet-is (solved-refused (a .args .names .now) (system (a .args .n) (a .args .matrix .now) (a .args .right .now)) (a .args .bounds .now) (paper (w .eliminate-balance .result)) (a .pre .1 .2) (w .eliminate-balance .ensures .0) (λ z. e .if1 .left (n .number .ensures ∙ z))) (p .put-refusal .ensures)
+    sheet-is (solved-refused (a .args .names .now) (system (a .args .n) (a .args .matrix .now) (a .args .right .now)) (a .args .bounds .now) (numberAndPlace (w .eliminate-balance .result)) (a .pre .1 .2) (w .eliminate-balance .ensures .0) (λ z. e .if1 .left (n .number .ensures ∙ z))) (p .put-refusal .ensures)
 
 pub put-eliminated-spec : {M : Type 1} → statement M
 put-eliminated-spec =

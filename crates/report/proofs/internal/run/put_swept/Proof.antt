@@ -1,7 +1,7 @@
 use mathlib.Core.Path.{sym, _∙_}
 use borrow.Author.Needs.{needs}
-use Rattle.inputs.specs.Tests.{system}
-use Rattle.outcome.specs.Table.{paper}
+use Rattle.inputs.specs.System.{system}
+use Rattle.outcome.specs.Table.{numberAndPlace}
 use Rattle.report.proofs.Run.{sheet-is, tightened-settled, tightened-spent, tightened-refused}
 use Rattle.report.proofs.internal.run.put_swept.Statement.{statement}
 use Rattle.report.proofs.internal.run.put_swept.Tie as tie
@@ -28,7 +28,7 @@ returns c =
     let n = t .before in
     let w = n .before .before in
     let a = w .before .before .before .before in
-    sheet-is (tightened-settled (a .args .names .now) (system (a .args .n) (a .args .matrix .now) (a .args .right .now)) (a .args .bounds .now) (paper (w .sweep .result .outcome)) _ _ (w .sweep .ensures .0) (w .sweep .ensures .1 .0) (w .sweep .ensures .1 .1) (sym (n .number .ensures) ∙ t .if1 .taken)) (p .put-calculated .ensures)
+    sheet-is (tightened-settled (a .args .names .now) (system (a .args .n) (a .args .matrix .now) (a .args .right .now)) (a .args .bounds .now) (numberAndPlace (w .sweep .result .outcome)) _ _ (w .sweep .ensures .0) (w .sweep .ensures .1 .0) (w .sweep .ensures .1 .1) (sym (n .number .ensures) ∙ t .if1 .taken)) (p .put-calculated .ensures)
 
 put-calculated-requires-2 : tie.Need-put-calculated-requires-2
 put-calculated-requires-2 c κs = search needs
@@ -47,7 +47,7 @@ returns-2 c =
     let n = e .before in
     let w = n .before .before in
     let a = w .before .before .before .before in
-    sheet-is (tightened-spent (a .args .names .now) (system (a .args .n) (a .args .matrix .now) (a .args .right .now)) (a .args .bounds .now) (paper (w .sweep .result .outcome)) _ _ (w .sweep .ensures .0) (w .sweep .ensures .1 .0) (w .sweep .ensures .1 .1) (λ z. e .if1 .left (n .number .ensures ∙ z)) (sym (n .number .ensures) ∙ t .if2 .taken)) (p .put-calculated2 .ensures)
+    sheet-is (tightened-spent (a .args .names .now) (system (a .args .n) (a .args .matrix .now) (a .args .right .now)) (a .args .bounds .now) (numberAndPlace (w .sweep .result .outcome)) _ _ (w .sweep .ensures .0) (w .sweep .ensures .1 .0) (w .sweep .ensures .1 .1) (λ z. e .if1 .left (n .number .ensures ∙ z)) (sym (n .number .ensures) ∙ t .if2 .taken)) (p .put-calculated2 .ensures)
 
 put-refusal-requires : tie.Need-put-refusal-requires
 put-refusal-requires c κs = search needs
@@ -66,7 +66,7 @@ returns-3 c =
     let n = e .before in
     let w = n .before .before in
     let a = w .before .before .before .before in
-    sheet-is (tightened-refused (a .args .names .now) (system (a .args .n) (a .args .matrix .now) (a .args .right .now)) (a .args .bounds .now) (paper (w .sweep .result .outcome)) _ _ (w .sweep .ensures .0) (w .sweep .ensures .1 .0) (w .sweep .ensures .1 .1) (λ z. e .if1 .left (n .number .ensures ∙ z)) (λ z. t .if2 .left (n .number .ensures ∙ z))) (p .put-refusal .ensures)
+    sheet-is (tightened-refused (a .args .names .now) (system (a .args .n) (a .args .matrix .now) (a .args .right .now)) (a .args .bounds .now) (numberAndPlace (w .sweep .result .outcome)) _ _ (w .sweep .ensures .0) (w .sweep .ensures .1 .0) (w .sweep .ensures .1 .1) (λ z. e .if1 .left (n .number .ensures ∙ z)) (λ z. t .if2 .left (n .number .ensures ∙ z))) (p .put-refusal .ensures)
 
 pub put-swept-spec : {M : Type 1} → statement M
 put-swept-spec =

@@ -4,7 +4,7 @@ use native.Mathlib.Omega.{arith}
 use native.Mathlib.Nat.{sub-zero}
 use borrow.Author.Needs.{needs}
 use borrow.Author.Tests.{not-true, not-false}
-use Rattle.inputs.specs.Tests.{system}
+use Rattle.inputs.specs.System.{system}
 use Rattle.rows.specs.Sum.{singly}
 use Rattle.sweep.specs.Pass.{sweep}
 use Rattle.sweep.specs.Call.{sweeps}

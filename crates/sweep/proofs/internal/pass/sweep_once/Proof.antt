@@ -4,7 +4,7 @@ use Prim.Native.Nat.{_-_, _≤_}
 use native.Mathlib.Omega.{arith}
 use native.Mathlib.Nat.{sub-zero}
 use borrow.Author.Needs.{needs}
-use Rattle.inputs.specs.Tests.{system}
+use Rattle.inputs.specs.System.{system}
 use Rattle.rows.specs.Sum.{singly}
 use Rattle.sweep.specs.Pass.{component, sweepFrom, sweep}
 use Rattle.sweep.specs.Code.{Ready}
