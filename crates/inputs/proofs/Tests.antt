@@ -28,6 +28,15 @@ unfolding both
 both-pass Pass t e = (refl, e)
 both-pass (Fail o) t e = never o e
 
+-- the first test decides, or the second does
+pub both-stop : {t : Test} {o : Outcome} (u : Test) → t ≡ Fail o → Fail o ≡ both t u
+unfolding both
+both-stop u e = rw e
+
+pub both-go : {t : Test} (u : Test) → t ≡ Pass → u ≡ both t u
+unfolding both
+both-go u e = rw e
+
 pub both-last : (t : Test) → t ≡ both t Pass
 unfolding both
 both-last Pass = refl

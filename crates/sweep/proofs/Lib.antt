@@ -1,5 +1,6 @@
 pub mod Tests
 pub mod Ends
+pub mod Changed
 pub mod Pass
 pub mod Log
 pub mod Kept

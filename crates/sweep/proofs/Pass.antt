@@ -1,14 +1,17 @@
 -- One turn of the loop of a sweep, and what stays true of the box.
-use mathlib.Core.Path.{_≡_, _∙_}
+use mathlib.Core.Path.{_≡_, refl, sym, _∙_}
 use mathlib.Core.Bool.{Bool, true, false, _||_}
 use mathlib.Core.List.{List}
 use Prim.Native.Nat.{ℕ, suc, _+_, _-_, _*_, _≤_, _<_}
 use native.Mathlib.Omega.{arith}
+use native.Mathlib.Nat.{sub-zero}
 use lib.IntN.{ℤ}
 use lib.ListN.{length}
 use lib.Signed.{_≤ℤ_}
 use Rattle.integer.proofs.Order.{left, trans}
 use Rattle.integer.proofs.Extremes.{le-max-right, min-le-right}
+use Rattle.outcome.specs.declared.Outcome.the-variants as outcome
+use Rattle.outcome.specs.Run.{refused, done}
 use Rattle.interval.specs.declared.Interval.{Interval}
 use Rattle.interval.specs.Interval.{acceptable, exactSum, intersection, isEmpty}
 use Rattle.interval.specs.Code.{Representable}
@@ -16,26 +19,27 @@ use Rattle.interval.proofs.Range.{is-sound, sound-accepted}
 use Rattle.inputs.specs.System.{System, system}
 use Rattle.inputs.specs.Place.{at, put}
 use Rattle.inputs.specs.Code.{Sound}
-use Rattle.inputs.proofs.Place.{length-put, sound-put}
+use Rattle.inputs.proofs.Place.{length-put, sound-put, at-put-other}
 use Rattle.rows.specs.Sum.{RowSum, singly}
 use Rattle.rows.proofs.Size.{small-fits, sum-small, acceptable-small}
 use Rattle.rows.proofs.Sum.{singly-small}
-use Rattle.sweep.specs.Pass as pass
-use Rattle.sweep.specs.Pass.{component, differs, sweepFrom}
+use Rattle.sweep.specs.Pass.{component, sweepFrom, sweep, differs, differ}
 use Rattle.sweep.specs.Code.{Ready}
+use Rattle.sweep.proofs.Changed.{differ-self, differ-put}
 
-module _ (sum : RowSum) (s : System) (i : ℕ) (c : Bool) (x : List ℤ) where
-  pub sweep-end : s .size ≤ i → sweepFrom sum s (s .size - i) i c x ≡ pass.whole c x
+module _ (sum : RowSum) (s : System) (i : ℕ) (x : List ℤ) where
+  sweep-end : s .size ≤ i → sweepFrom sum s (s .size - i) i x ≡ done x
   unfolding sweepFrom
   sweep-end h = let e : s .size - i ≡ 0 = omega arith in rw e
 
-  pub sweep-stop : i < s .size → isEmpty (component sum s x i) ≡ true → sweepFrom sum s (s .size - i) i c x ≡ pass.stopped (i + 1)
-  unfolding sweepFrom
-  sweep-stop h f = let e : s .size - i ≡ suc (s .size - (i + 1)) = omega arith in rw (e, f)
+  module _ (h : i < s .size) where
+    sweep-stop : isEmpty (component sum s x i) ≡ true → sweepFrom sum s (s .size - i) i x ≡ refused (outcome.Empty (i + 1))
+    unfolding sweepFrom
+    sweep-stop f = let e : s .size - i ≡ suc (s .size - (i + 1)) = omega arith in rw (e, f)
 
-  pub sweep-go : i < s .size → isEmpty (component sum s x i) ≡ false → sweepFrom sum s (s .size - i) i c x ≡ sweepFrom sum s (s .size - (i + 1)) (i + 1) (c || differs (at x i) (component sum s x i)) (put x i (component sum s x i))
-  unfolding sweepFrom
-  sweep-go h f = let e : s .size - i ≡ suc (s .size - (i + 1)) = omega arith in rw (e, f)
+    sweep-go : isEmpty (component sum s x i) ≡ false → sweepFrom sum s (s .size - i) i x ≡ sweepFrom sum s (s .size - (i + 1)) (i + 1) (put x i (component sum s x i))
+    unfolding sweepFrom
+    sweep-go f = let e : s .size - i ≡ suc (s .size - (i + 1)) = omega arith in rw (e, f)
 
 -- what is not empty has its ends in sequence
 pub not-empty : {v : Interval} → isEmpty v ≡ false → v .lo ≤ℤ v .hi
@@ -73,14 +77,35 @@ module _ {n : ℕ} {m r x : List ℤ} (w : Ready n m r x) (i : ℕ) where
         box-sound = sound-put x i _ (w .box-sound) (omega (arith, w .box)) (component-accepted e);
       }
 
--- ---- one turn
-module _ {n i : ℕ} {m r x : List ℤ} {v : Interval} (w : Ready n m r x) (h : i < n) (e : v ≡ component singly (system n m r) x i) where
-  pub turn-stops : (c : Bool) → isEmpty v ≡ true → sweepFrom singly (system n m r) (n - i) i c x ≡ pass.stopped (i + 1)
-  turn-stops c f = sweep-stop singly (system n m r) i c x h (rw e at f)
+-- ---- a sweep before component i: the box so far, and whether it differs from the one before the sweep
+pub record Halfway (n i : ℕ) (m r x₀ x : List ℤ) (changed : Bool) : Type 0 where
+  pub ready : Ready n m r x
+  pub rest : sweep singly (system n m r) x₀ ≡ sweepFrom singly (system n m r) (n - i) i x
+  pub flag : changed ≡ differ x₀ x n 0
+  pub old : (j : ℕ) → i ≤ j → at x j ≡ at x₀ j
 
-  pub turn-goes : (c : Bool) {d : Bool} {o : Interval} {y : List ℤ} → isEmpty v ≡ false → o ≡ at x i → d ≡ (c || differs o v) → y ≡ put x i v →
-      Ready n m r y × (sweepFrom singly (system n m r) (n - i) i c x ≡ sweepFrom singly (system n m r) (n - (i + 1)) (i + 1) d y)
-  turn-goes c f g p q = rw (q, p, g, e) (ready-put w i h (rw e at f), sweep-go singly (system n m r) i c x h (rw e at f))
+pub halfway-start : {n : ℕ} {m r x : List ℤ} → Ready n m r x → Halfway n 0 m r x x false
+unfolding sweep
+halfway-start {n} {x = x} w = record { ready = w; rest = rw sub-zero; flag = sym (differ-self x n 0); old = λ j h. refl }
+
+module _ {n i : ℕ} {m r x₀ x : List ℤ} {c : Bool} (w : Halfway n i m r x₀ x c) where
+  pub halfway-end : n ≤ i → done x ≡ sweep singly (system n m r) x₀
+  halfway-end h = sym (w .rest ∙ sweep-end singly (system n m r) i x h)
+
+  module _ {v : Interval} (h : i < n) (e : v ≡ component singly (system n m r) x i) where
+    pub halfway-stop : isEmpty v ≡ true → refused (outcome.Empty (i + 1)) ≡ sweep singly (system n m r) x₀
+    halfway-stop f = sym (w .rest ∙ sweep-stop singly (system n m r) i x h (rw e at f))
+
+    pub halfway-go : {d : Bool} {o : Interval} {y : List ℤ} → isEmpty v ≡ false → o ≡ at x i → d ≡ (c || differs o v) → y ≡ put x i v → Halfway n (i + 1) m r x₀ y d
+    halfway-go f g p q =
+        let k : 2 * i + 1 < length x = omega (arith, w .ready .box) in
+        rw (q, p, g, w .flag)
+        (record {
+          ready = rw e (ready-put (w .ready) i h (rw e at f));
+          rest = w .rest ∙ rw e (sweep-go singly (system n m r) i x h (rw e at f));
+          flag = rw (w .old i (omega arith)) (sym (differ-put x₀ x i v k (w .old i (omega arith)) n 0 (omega arith) (omega arith)));
+          old = λ j l. at-put-other x i j v (omega arith) ∙ w .old j (omega arith);
+        })
 
 -- a box that is as long, and of intervals
 pub ready-after : {n : ℕ} {m r x y : List ℤ} → Ready n m r x → length y ≡ length x → Sound y → Ready n m r y

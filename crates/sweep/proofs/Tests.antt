@@ -1,8 +1,7 @@
 -- The tests of a call, one after the other, and what they say when they pass.
-use mathlib.Core.Path.{_≡_}
-use mathlib.Core.List.{List}
+use mathlib.Core.Path.{_≡_, _∙_}
+use mathlib.Core.List.{List, [], _∷_}
 use Prim.Native.Nat.{ℕ, _+_, _*_, _≤_, _<_}
-use native.Mathlib.Nat.{zero-add}
 use borrow.Author.Tests.{le-leb, lt-leb, leb-true}
 use lib.Dec.{leb}
 use lib.IntN.{ℤ}
@@ -11,9 +10,10 @@ use Rattle.outcome.specs.declared.Outcome.{Outcome}
 use Rattle.outcome.specs.declared.Outcome.the-variants as outcome
 use Rattle.interval.proofs.Range.{and-both}
 use Rattle.inputs.specs.declared.Test.the-variants.{Pass, Fail}
-use Rattle.inputs.specs.System.{system}
-use Rattle.inputs.specs.Tests.{both, need, sizes, proper, allProper}
-use Rattle.inputs.proofs.Tests.{both-pass, both-last, need-pass, sizes-pass}
+use Rattle.inputs.specs.Tests.{need, sized, lengths, proper, Part, allProper}
+use Rattle.inputs.specs.System.{System, slices}
+use Rattle.inputs.proofs.Tests.{both-pass, both-stop, both-go, both-last, need-pass}
+use Rattle.inputs.proofs.System.{size-stops, lengths-stop, sizes-go, Fitting, sizes-fitting, matrix-stops, right-stops, parts-go, parts-proper}
 use Rattle.inputs.proofs.Place.{proper-sound}
 use Rattle.sweep.specs.Call.{allowance, tests}
 use Rattle.sweep.specs.Code.{Ready}
@@ -37,49 +37,58 @@ module _ (k : ℕ) where
   allowance-pass e = leb-true k 10000 (and-both (leb 1 k) (leb k 10000) (need-pass _ outcome.Allowed e) .1)
 
 -- ---- in sequence
-module _ (n : ℕ) (m r : List ℤ) (k : ℕ) (x : List ℤ) where
-  pub tests-sizes : {o : Outcome} → sizes n (length m) (length r) (length x) ≡ Fail o → Fail o ≡ tests (system n m r) k x
-  unfolding tests both
-  tests-sizes e = rw e
+-- what follows matrix and right side
+abbrev box : System → List ℤ → List Part
+box s x = record { numbers = x; count = s .size } ∷ []
 
-  module _ (s : sizes n (length m) (length r) (length x) ≡ Pass) where
-    pub tests-allowed : {o : Outcome} → allowance k ≡ Fail o → Fail o ≡ tests (system n m r) k x
-    unfolding tests both
-    tests-allowed e = rw (s, e)
+module _ (s : System) (k : ℕ) (x : List ℤ) where
+  pub tests-size : {o : Outcome} → sized (s .size) ≡ Fail o → Fail o ≡ tests s k x
+  unfolding tests
+  tests-size e = size-stops s (length x) _ e
 
-    module _ (a : allowance k ≡ Pass) where
-      pub tests-matrix : {o : Outcome} → proper m (n * n) 0 0 ≡ Fail o → Fail o ≡ tests (system n m r) k x
-      unfolding tests both allProper
-      tests-matrix e = rw (s, a, e)
+  module _ (e : sized (s .size) ≡ Pass) where
+    pub tests-lengths : {o : Outcome} → lengths (slices s (length x)) ≡ Fail o → Fail o ≡ tests s k x
+    unfolding tests
+    tests-lengths f = lengths-stop s (length x) _ e f
 
-      module _ (e : proper m (n * n) 0 0 ≡ Pass) where
-        pub tests-right : {o : Outcome} → proper r n 0 (n * n) ≡ Fail o → Fail o ≡ tests (system n m r) k x
-        unfolding tests both allProper
-        tests-right f = rw (s, a, e, zero-add (n * n), f)
+    module _ (f : lengths (slices s (length x)) ≡ Pass) where
+      pub tests-allowed : {o : Outcome} → allowance k ≡ Fail o → Fail o ≡ tests s k x
+      unfolding tests
+      tests-allowed a = both-stop _ a ∙ sizes-go s (length x) _ e f
 
-        pub tests-box : proper r n 0 (n * n) ≡ Pass → proper x n 0 (n * n + n) ≡ tests (system n m r) k x
-        unfolding tests both allProper
-        tests-box f = rw (s, a, e, zero-add (n * n), f) (both-last (proper x n 0 (n * n + n)))
+      module _ (a : allowance k ≡ Pass) where
+        pub tests-matrix : {o : Outcome} → proper (s .matrix) (s .size * s .size) 0 0 ≡ Fail o → Fail o ≡ tests s k x
+        unfolding tests
+        tests-matrix g = matrix-stops s (box s x) g ∙ both-go _ a ∙ sizes-go s (length x) _ e f
 
-  pub allowed-few : tests (system n m r) k x ≡ Pass → k ≤ 10000
+        module _ (g : proper (s .matrix) (s .size * s .size) 0 0 ≡ Pass) where
+          pub tests-right : {o : Outcome} → proper (s .right) (s .size) 0 (s .size * s .size) ≡ Fail o → Fail o ≡ tests s k x
+          unfolding tests
+          tests-right h = right-stops s (box s x) g h ∙ both-go _ a ∙ sizes-go s (length x) _ e f
+
+          pub tests-box : proper (s .right) (s .size) 0 (s .size * s .size) ≡ Pass → proper x (s .size) 0 (s .size * s .size + s .size) ≡ tests s k x
+          unfolding tests allProper
+          tests-box h = both-last _ ∙ parts-go s (box s x) g h ∙ both-go _ a ∙ sizes-go s (length x) _ e f
+
+  pub allowed-few : tests s k x ≡ Pass → k ≤ 10000
   unfolding tests
   allowed-few e = allowance-pass k (both-pass _ _ (both-pass _ _ e .1) .0)
 
-  pub ready : tests (system n m r) k x ≡ Pass → Ready n m r x
+  pub fits : tests s k x ≡ Pass → Fitting s (length x)
+  unfolding tests
+  fits e = sizes-fitting s (length x) (both-pass _ _ e .0)
+
+  pub ready : tests s k x ≡ Pass → Ready (s .size) (s .matrix) (s .right) x
   unfolding tests allProper
   ready e =
-      let s = both-pass _ _ e in
-      let a = both-pass _ _ (s .1) in
-      let f = both-pass _ _ (a .1) in
-      let g = both-pass _ _ (f .1) in
-      let h = both-pass _ _ (g .1) in
-      let z = sizes-pass _ _ _ _ (s .0) in
+      let z = fits e in
+      let q = parts-proper s (box s x) z (both-pass _ _ (both-pass _ _ e .1) .1) in
       record {
         few = z .few;
         matrix = z .matrix;
         right = z .right;
         box = z .box;
-        matrix-sound = proper-sound m (n * n) 0 (z .matrix) (f .0);
-        right-sound = proper-sound r n (0 + n * n) (z .right) (g .0);
-        box-sound = proper-sound x n (0 + n * n + n) (z .box) (h .0);
+        matrix-sound = q .matrix;
+        right-sound = q .right;
+        box-sound = proper-sound x (s .size) (0 + s .size * s .size + s .size) (z .box) (both-pass (proper x (s .size) 0 (0 + s .size * s .size + s .size)) Pass (q .rest) .0);
       }

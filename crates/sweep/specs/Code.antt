@@ -1,19 +1,19 @@
 -- What the functions beneath the sweep call ask of what is lent and promise each other.
 use mathlib.Core.Path.{_≡_}
-use mathlib.Core.Bool.{Bool, true, false}
+use mathlib.Core.Logic.{_≢_}
 use mathlib.Core.List.{List}
 use Prim.Native.Nat.{ℕ, _*_, _≤_}
 use lib.IntN.{ℤ}
 use lib.ListN.{length}
+use Rattle.outcome.specs.Table.{numberAndPlace}
+use Rattle.outcome.specs.declared.Outcome.the-variants as outcome
+use Rattle.outcome.specs.Run.{Run, refused, done, returned}
 use Rattle.inputs.specs.Code.{Sound}
 use Rattle.sweep.specs.declared.internal.pass.OneSweep.{OneSweep}
-use Rattle.sweep.specs.declared.internal.pass.OneSweep.the-variants.{Stopped, Whole}
-use Rattle.sweep.specs.declared.internal.calls.Ending.{Ending}
-use Rattle.sweep.specs.declared.internal.calls.Ending.the-variants.{Emptied, Settled, Spent}
-use Rattle.sweep.specs.declared.internal.calls.Sweeps.{Sweeps}
+use Rattle.sweep.specs.declared.internal.pass.OneSweep.the-variants.{Empty, Whole}
 use Rattle.sweep.specs.declared.Swept.{Swept}
-use Rattle.sweep.specs.Pass as pass
-use Rattle.sweep.specs.Call.{Log, emptied, settled, spent, swept, count, ending, last}
+use Rattle.sweep.specs.Pass.{differ}
+use Rattle.sweep.specs.Call.{Log, count, ending, last, concluded}
 
 -- matrix, right side and box of n components, all of them intervals
 pub record Ready (n : ℕ) (m r x : List ℤ) : Type 0 where
@@ -25,35 +25,27 @@ pub record Ready (n : ℕ) (m r x : List ℤ) : Type 0 where
   pub right-sound : Sound r
   pub box-sound : Sound x
 
--- a pass as the definition has it, from how it ended and the box that it left
-abbrev pub passOf : OneSweep → List ℤ → pass.Pass
-passOf (Stopped i) x = pass.stopped i
-passOf (Whole changed) x = pass.whole changed x
+-- a pass as the definition has it, from how it ended and the box that it left; and the flag, which says whether it changed the box
+abbrev pub runOf : OneSweep → List ℤ → Run (List ℤ)
+runOf (Empty i) x = refused (outcome.Empty i)
+runOf (Whole changed) x = done x
 
-pub record Passed (p : pass.Pass) (r : OneSweep) (after : List ℤ) : Type 0 where
-  pub is : passOf r after ≡ p
+abbrev pub Flagged : (n : ℕ) → (before after : List ℤ) → OneSweep → Type 0
+Flagged n x y (Empty i) = Unit {0}
+Flagged n x y (Whole changed) = changed ≡ differ x y n 0
+
+pub record Passed (run : Run (List ℤ)) (n : ℕ) (before : List ℤ) (r : OneSweep) (after : List ℤ) : Type 0 where
+  pub is : runOf r after ≡ run
+  pub flagged : Flagged n before after r
   pub sound : Sound after
 
--- how a log ends
-abbrev pub endOf : Log → Ending
-endOf (emptied i) = Emptied i
-endOf settled = Settled
-endOf spent = Spent
-endOf (swept Y l) = endOf l
-
-abbrev pub isEmptied : Ending → Bool
-isEmptied (Emptied i) = true
-isEmptied Settled = false
-isEmptied Spent = false
-
-pub record Logged (l : Log) (before : List ℤ) (r : Sweeps) (after : List ℤ) : Type 0 where
-  pub ending : r .ending ≡ endOf l
+-- the sweeps, from their log. The box that they leave is the one at the end, unless a 7 refused them; then the lent one stands
+pub record Logged (l : Log) (before : List ℤ) (r : Swept) (after : List ℤ) : Type 0 where
+  pub outcome : r .outcome ≡ ending l
   pub count : r .count ≡ count l
-  -- the box, unless it was found empty; then what stands there is of no use
-  pub box : isEmptied (r .ending) ≡ false → (lent : List ℤ) → after ≡ last l lent before
+  pub box : numberAndPlace (r .outcome) .number ≢ 7 → (lent : List ℤ) → after ≡ last l lent before
+  pub lent : numberAndPlace (r .outcome) .number ≡ 7 → (lent : List ℤ) → lent ≡ last l lent before
 
 -- what the call returns and leaves, from the log of its sweeps
 pub record Ran (l : Log) (lent : List ℤ) (r : Swept) (after : List ℤ) : Type 0 where
-  pub outcome : r .outcome ≡ ending l
-  pub counted : r .count ≡ count l
-  pub box : after ≡ last l lent lent
+  pub is : returned (r .outcome) (r .count) after ≡ concluded lent l

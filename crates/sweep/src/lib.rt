@@ -5,10 +5,9 @@ use crate::internal::tests::tested;
 use inputs::Test;
 use outcome::Outcome;
 ghost use mathlib.Core.Path.{_≡_};
-ghost use Rattle.outcome.specs.Table.{numberAndPlace};
+ghost use Rattle.outcome.specs.Run.{returned};
 ghost use Rattle.inputs.specs.System.{system};
-ghost use Rattle.sweep.specs.Call.{outcomeOf, countOf, boxAfter};
-ghost use Rattle.sweep.specs.Calls.{sweepCall, answer};
+ghost use Rattle.sweep.specs.Calls.{sweepCall, call};
 
 // What a sweep call returns: its outcome and the number of whole sweeps done.
 pub struct Swept {
@@ -18,9 +17,10 @@ pub struct Swept {
 
 // Tightens the lent box by at most so many sweeps.
 pub fn sweep(n: usize, b_matrix: &[i64], b: &[i64], bounds: &mut [i64], allowed: usize) -> Swept
-    ensures outcome { λ r. ⌜ numberAndPlace (r .outcome) ≡ numberAndPlace (outcomeOf (answer (system n (now («b_matrix» .entry)) (now (b .entry))) (sweepCall allowed) (now (bounds .entry)))) ⌝ }
-    ensures counted { λ r. ⌜ r .count ≡ countOf (answer (system n (now («b_matrix» .entry)) (now (b .entry))) (sweepCall allowed) (now (bounds .entry))) ⌝ }
-    ensures written { λ r. ⌜ now (bounds .exit) ≡ boxAfter (answer (system n (now («b_matrix» .entry)) (now (b .entry))) (sweepCall allowed) (now (bounds .entry))) (now (bounds .entry)) ⌝ }
+    ensures { λ r. ⌜
+        returned (r .outcome) (r .count) (now (bounds .exit)) ≡
+        call (system n (now («b_matrix» .entry)) (now (b .entry))) (sweepCall allowed) (now (bounds .entry))
+        ⌝ }
 {
     match tested(n, b_matrix, b, bounds, allowed) {
         Test::Pass => run(n, b_matrix, b, bounds, allowed),

@@ -13,45 +13,36 @@ ghost use Rattle.sweep.specs.Pass.{sweep};
 ghost use Rattle.sweep.specs.Call.{sweeps, tests};
 ghost use Rattle.sweep.specs.Code.{Ready, Logged, Ran};
 
-// How the sweeps of a call ended.
-pub enum Ending {
-    Emptied(usize),
-    Settled,
-    Spent,
-}
-
-pub struct Sweeps {
-    pub ending: Ending,
-    pub count: usize,
-}
-
 // Sweeps x until it settles, is found empty, or the sweeps allowed are spent.
-fn repeat(n: usize, m: &[i64], r: &[i64], x: &mut [i64], allowed: usize) -> Sweeps
+fn repeat(n: usize, m: &[i64], r: &[i64], x: &mut [i64], allowed: usize) -> Swept
     requires { ⌜ Ready n (now m) (now r) (now x) × (allowed ≤ 10000) ⌝ }
-    ensures { λ s. ⌜ Logged (sweeps (sweep singly (system n (now (m .entry)) (now (r .entry)))) allowed (now (x .entry))) (now (x .entry)) s (now (x .exit)) ⌝ }
+    ensures { λ s. ⌜
+        Logged (sweeps n (sweep singly (system n (now (m .entry)) (now (r .entry)))) allowed (now (x .entry)))
+        (now (x .entry)) s (now (x .exit))
+        ⌝ }
 {
     let mut count: usize = 0;
     while count < allowed {
         match sweep_once(n, m, r, x) {
-            OneSweep::Stopped(i) => {
-                return Sweeps {
-                    ending: Ending::Emptied(i),
+            OneSweep::Empty(i) => {
+                return Swept {
+                    outcome: Outcome::Empty(i),
                     count,
                 };
             }
             OneSweep::Whole(changed) => {
                 count += 1;
                 if !changed {
-                    return Sweeps {
-                        ending: Ending::Settled,
+                    return Swept {
+                        outcome: Outcome::Done,
                         count,
                     };
                 }
             }
         }
     }
-    Sweeps {
-        ending: Ending::Spent,
+    Swept {
+        outcome: Outcome::Spent,
         count,
     }
 }
@@ -67,38 +58,27 @@ fn tighten(
 ) -> Swept
     requires { ⌜ tests (system n (now m) (now r)) allowed (now bounds) ≡ Pass ⌝ }
     requires { ⌜ length (now x) ≡ 2 * n ⌝ }
-    ensures { λ s. ⌜ Ran (sweeps (sweep singly (system n (now (m .entry)) (now (r .entry)))) allowed (now (bounds .entry))) (now (bounds .entry)) s (now (bounds .exit)) ⌝ }
+    ensures { λ s. ⌜
+        Ran (sweeps n (sweep singly (system n (now (m .entry)) (now (r .entry)))) allowed (now (bounds .entry)))
+        (now (bounds .entry)) s (now (bounds .exit))
+        ⌝ }
 {
     copy_out(x, bounds, 0);
     let s = repeat(n, m, r, x, allowed);
-    let count = s.count;
-    let e = s.ending;
-    match e {
-        Ending::Emptied(i) => Swept {
-            outcome: Outcome::Empty(i),
-            count,
-        },
-        Ending::Settled => {
-            copy_out(bounds, x, 0);
-            Swept {
-                outcome: Outcome::Done,
-                count,
-            }
-        }
-        Ending::Spent => {
-            copy_out(bounds, x, 0);
-            Swept {
-                outcome: Outcome::Spent,
-                count,
-            }
-        }
+    let o = s.outcome;
+    if o.number() != 7 {
+        copy_out(bounds, x, 0);
     }
+    s
 }
 
 // The sweeps, after the tests.
 pub fn run(n: usize, m: &[i64], r: &[i64], bounds: &mut [i64], allowed: usize) -> Swept
     requires { ⌜ tests (system n (now m) (now r)) allowed (now bounds) ≡ Pass ⌝ }
-    ensures { λ s. ⌜ Ran (sweeps (sweep singly (system n (now (m .entry)) (now (r .entry)))) allowed (now (bounds .entry))) (now (bounds .entry)) s (now (bounds .exit)) ⌝ }
+    ensures { λ s. ⌜
+        Ran (sweeps n (sweep singly (system n (now (m .entry)) (now (r .entry)))) allowed (now (bounds .entry)))
+        (now (bounds .entry)) s (now (bounds .exit))
+        ⌝ }
 {
     let mut x = [0i64; 64];
     tighten(n, m, r, &mut x[..2 * n], bounds, allowed)

@@ -15,7 +15,7 @@ ghost use Rattle.sweep.specs.Code.{Ready, Passed};
 
 // How a pass over the box ended: at an empty intersection, or whole, and whether it changed an end.
 pub enum OneSweep {
-    Stopped(usize),
+    Empty(usize),
     Whole(bool),
 }
 
@@ -47,13 +47,15 @@ fn moved(earlier: bool, old: Interval, new: Interval) -> bool
 // One sweep over x.
 pub fn sweep_once(n: usize, m: &[i64], r: &[i64], x: &mut [i64]) -> OneSweep
     requires { ⌜ Ready n (now m) (now r) (now x) ⌝ }
-    ensures { λ p. ⌜ Passed (sweep singly (system n (now (m .entry)) (now (r .entry))) (now (x .entry))) p (now (x .exit)) ⌝ }
+    ensures { λ p. ⌜
+        Passed (sweep singly (system n (now (m .entry)) (now (r .entry))) (now (x .entry))) n (now (x .entry)) p (now (x .exit))
+        ⌝ }
 {
     let mut changed = false;
     for i in 0..n {
         let v = component(n, i, m, r, x);
         if is_empty(v) {
-            return OneSweep::Stopped(i + 1);
+            return OneSweep::Empty(i + 1);
         }
         let old = read(x, i);
         changed = moved(changed, old, v);

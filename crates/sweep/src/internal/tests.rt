@@ -1,6 +1,7 @@
 use inputs::Test;
 use inputs::internal::intervals;
-use inputs::internal::size_and_lengths;
+use inputs::internal::lengths;
+use inputs::internal::size;
 use outcome::Outcome;
 ghost use mathlib.Core.Path.{_≡_};
 ghost use Rattle.inputs.specs.System.{system};
@@ -22,8 +23,17 @@ fn budget(allowed: usize) -> Test
 pub fn tested(n: usize, matrix: &[i64], right: &[i64], bounds: &[i64], allowed: usize) -> Test
     ensures { λ r. ⌜ r ≡ tests (system n (now (matrix .entry)) (now (right .entry))) allowed (now (bounds .entry)) ⌝ }
 {
-    let s = size_and_lengths(n, matrix.len(), right.len(), bounds.len());
+    let s = size(n);
     if let Test::Fail(o) = s {
+        return Test::Fail(o);
+    }
+    let slices = [
+        [1, matrix.len(), 2 * (n * n)],
+        [2, right.len(), 2 * n],
+        [3, bounds.len(), 2 * n],
+    ];
+    let l = lengths(&slices);
+    if let Test::Fail(o) = l {
         return Test::Fail(o);
     }
     let k = budget(allowed);

@@ -10,13 +10,13 @@ use Rattle.sweep.specs.Pass.{sweep}
 use Rattle.sweep.specs.Call.{sweeps}
 use Rattle.sweep.specs.Code.{Ready}
 use Rattle.sweep.proofs.Pass.{ready-after}
-use Rattle.sweep.proofs.Log.{sweeps-spent, sweeps-emptied, sweeps-settled, sweeps-go, Since, since-start, since-more, logged-emptied, logged-settled, logged-spent, was-stopped, was-whole}
+use Rattle.sweep.proofs.Log.{sweeps-spent, sweeps-stopped, sweeps-settled, sweeps-go, Since, since-start, since-more, logged-empty, logged-settled, logged-spent, was-empty, was-whole, was-flagged}
 use Rattle.sweep.proofs.internal.calls.repeat.Statement.{statement}
 use Rattle.sweep.proofs.internal.calls.repeat.Tie as tie
 
 abbrev Inv-loop : tie.InvT-loop
 Inv-loop n m r x₀ allowed count₀ x count =
-    (count ≤ allowed) × Ready n m r x × Since (sweeps (sweep singly (system n m r)) allowed x₀) x₀ count (sweeps (sweep singly (system n m r)) (allowed - count) x) x
+    (count ≤ allowed) × Ready n m r x × Since (sweeps n (sweep singly (system n m r)) allowed x₀) x₀ count (sweeps n (sweep singly (system n m r)) (allowed - count) x) x
 
 abbrev μ-loop : tie.MeasureT-loop
 μ-loop n m r x₀ allowed count₀ x count = allowed - count
@@ -45,7 +45,7 @@ returns : tie.Need-returns Inv-loop μ-loop
 returns c =
     let u = c .before .before .before .before in
     let l = u .before .before .before in
-    logged-emptied (l .loop .inv .2) _ (sweeps-emptied _ _ _ _ (u .before .before .loop-test .taken) (was-stopped (u .sweep-once .ensures) (c .before .i .given .1)))
+    logged-empty (l .loop .inv .2) _ (sweeps-stopped _ _ _ _ _ (u .before .before .loop-test .taken) (was-empty (u .sweep-once .ensures) (c .before .i .given .1)))
 
 -- src/internal/calls.rt:42:29
 enum-known-changed : tie.Need-enum-known-changed Inv-loop μ-loop
@@ -67,8 +67,11 @@ returns-2 : tie.Need-returns-2 Inv-loop μ-loop
 returns-2 c =
     let u = c .before .before .before .before .before in
     let l = u .before .before .before in
-    let e = was-whole (u .sweep-once .ensures) (c .before .before .changed .given .1) (not-true _ (c .if1 .taken)) in
-    logged-settled (since-more (l .loop .inv .2) (sweeps-settled _ _ _ _ (u .before .before .loop-test .taken) e)) refl
+    let p = u .sweep-once .ensures in
+    let g = c .before .before .changed .given .1 in
+    logged-settled
+    (since-more (l .loop .inv .2) (sweeps-settled _ _ _ _ _ (u .before .before .loop-test .taken) (was-whole p g) (sym (was-flagged p g) ∙ not-true _ (c .if1 .taken))))
+    refl
 
 -- src/internal/calls.rt:34:5
 loop-less : tie.Need-loop-less Inv-loop μ-loop
@@ -80,8 +83,12 @@ loop-again c =
     let u = c .before .before .before .before .before in
     let l = u .before .before .before in
     let h = u .before .before .loop-test .taken in
-    let e = was-whole (u .sweep-once .ensures) (c .before .before .changed .given .1) (not-false _ (c .if1 .left)) in
-    (omega arith, ready-after (l .loop .inv .1) (u .sweep-once .kept .1 .1 .1 .0) (u .sweep-once .ensures .sound), since-more (l .loop .inv .2) (sweeps-go _ _ _ _ h e))
+    let p = u .sweep-once .ensures in
+    let g = c .before .before .changed .given .1 in (
+      omega arith,
+      ready-after (l .loop .inv .1) (u .sweep-once .kept .1 .1 .1 .0) (p .sound),
+      since-more (l .loop .inv .2) (sweeps-go _ _ _ _ _ h (was-whole p g) (sym (was-flagged p g) ∙ not-false _ (c .if1 .left))),
+    )
 
 -- src/internal/calls.rt:29:1
 same-length-3 : tie.Need-same-length-3 Inv-loop μ-loop
@@ -89,7 +96,7 @@ same-length-3 c = let l = c .before in l .loop .inv .1 .box ∙ sym (l .before .
 
 -- src/internal/calls.rt:29:1
 returns-3 : tie.Need-returns-3 Inv-loop μ-loop
-returns-3 c = let l = c .before in logged-spent (l .loop .inv .2) (sweeps-spent _ _ _ _ (c .loop-test .left))
+returns-3 c = let l = c .before in logged-spent (l .loop .inv .2) (sweeps-spent _ _ _ _ _ (c .loop-test .left))
 
 pub repeat-spec : {M : Type 1} → statement M
 repeat-spec =

@@ -3,13 +3,15 @@ use Prim.Native.Nat.{_*_, _≤_}
 use native.Mathlib.Omega.{arith}
 use borrow.Author.Needs.{needs}
 use lib.Seq.{length-take-le}
+use denote.Ref.{now}
+use Rattle.inputs.specs.System.{system}
 use Rattle.sweep.proofs.Tests.{ready}
 use Rattle.sweep.proofs.internal.calls.run.Statement.{statement}
 use Rattle.sweep.proofs.internal.calls.run.Tie as tie
 
 -- 2·n numbers fit the copy
 room : (c : tie.Start) → 2 * c .args .n ≤ 64
-room c = omega (arith, ready _ _ _ _ _ (c .pre) .few)
+room c = omega (arith, ready (system (c .args .n) (now (c .args .m)) (now (c .args .r))) _ _ (c .pre) .few)
 
 mul-x : tie.Need-mul-x
 mul-x c = omega (arith, room c)
