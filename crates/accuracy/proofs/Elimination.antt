@@ -13,6 +13,7 @@ use Rattle.fraction.proofs.Inside.{inside-same}
 use Rattle.inputs.specs.declared.Test.{Test}
 use Rattle.inputs.specs.declared.Test.the-variants.{Pass, Fail}
 use Rattle.inputs.specs.Place.{at}
+use Rattle.inputs.specs.Tests.{tested}
 use Rattle.inputs.specs.System.{System}
 use Rattle.rows.specs.Sum.{RowSum, singly}
 use Rattle.rows.specs.Exact.{Encloses}
@@ -20,7 +21,7 @@ use Rattle.rows.proofs.Enclosed.{singly-encloses}
 use Rattle.outcome.specs.Run.{Run, done}
 use Rattle.elimination.specs.Run.{cell, rhs}
 use Rattle.elimination.specs.Formed.{identity}
-use Rattle.elimination.specs.Call.{copied, solved, tests, tested, overA, overB}
+use Rattle.elimination.specs.Call.{copied, solved, tests, runA, runB}
 use Rattle.elimination.proofs.Run.{never, done-same, joined}
 use Rattle.elimination.proofs.Kept.{forward-pivots}
 use Rattle.elimination.proofs.Call.{ready, copied-working}
@@ -69,31 +70,31 @@ module _ (sum : RowSum) (encloses : Encloses sum) (s : System) (t X : List ℤ) 
       }
 
 -- ---- a call that went to its end passed its tests
-tested-done : (t : Test) (r : Run) (X : List ℤ) → tested t r ≡ done X → (t ≡ Pass) × (r ≡ done X)
+tested-done : (t : Test) (r : Run (List ℤ)) (X : List ℤ) → tested t r ≡ done X → (t ≡ Pass) × (r ≡ done X)
 unfolding tested
 tested-done Pass r X e = (refl, e)
 tested-done (Fail o) r X e = never e
 
 -- the call over A and f: the list holds A, which is I − (I − A)
-pub over-A : (s : System) (l : ℕ) (X : List ℤ) → overA s l ≡ done X → (x : ℕ → Fraction) → Solution (balanceOf s) x → InBox (s .size) X x
-unfolding overA balanceOf
+pub over-A : (s : System) (l : ℕ) (X : List ℤ) → runA s l ≡ done X → (x : ℕ → Fraction) → Solution (balanceOf s) x → InBox (s .size) X x
+unfolding runA balanceOf
 over-A s l X e =
     let a = tested-done (tests s l) _ X e in
-    let r = ready (s .size) (s .matrix) (s .right) l (a .0) in
+    let r = ready s l (a .0) in
     let m = r .fitting .matrix in
-    solution-inside singly singly-encloses (balanceOf s) (copied s) X (copied-working (s .size) (s .matrix) (s .right) l r .room) (a .1)
+    solution-inside singly singly-encloses (balanceOf s) (copied s) X (copied-working s l r .room) (a .1)
     (λ i j h k. copied-cell s m i j h k ∙ sym (ap (exactDifference (identity i j)) (balance-cell s i j h k) ∙ identity-twice i j _))
     (copied-right s m (r .fitting .right))
 
 -- the call over B and b: I − B is formed first
-pub over-B : (s : System) (l : ℕ) (X : List ℤ) → overB s l ≡ done X → (x : ℕ → Fraction) → Solution s x → InBox (s .size) X x
-unfolding overB
+pub over-B : (s : System) (l : ℕ) (X : List ℤ) → runB s l ≡ done X → (x : ℕ → Fraction) → Solution s x → InBox (s .size) X x
+unfolding runB
 over-B s l X e =
     let a = tested-done (tests s l) _ X e in
-    let r = ready (s .size) (s .matrix) (s .right) l (a .0) in
+    let r = ready s l (a .0) in
     let m = r .fitting .matrix in
     let b = joined _ _ X (a .1) in
-    let room = copied-working (s .size) (s .matrix) (s .right) l r .room in
+    let room = copied-working s l r .room in
     let f = rows-formed (s .size) (s .size) 0 (copied s) (b .mid) (omega arith) room (b .first) in
     solution-inside singly singly-encloses s (b .mid) X (omega (arith, f .as-long, room)) (b .rest)
     (λ i j h k. f .new i j (omega arith) h k ∙ ap (exactDifference (identity i j)) (copied-cell s m i j h k))

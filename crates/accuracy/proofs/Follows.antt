@@ -11,7 +11,7 @@ use Rattle.fraction.specs.Fraction.{Fraction}
 use Rattle.fraction.specs.Meaning.{Contains}
 use Rattle.inputs.specs.Place.{at}
 use Rattle.inputs.specs.System.{System}
-use Rattle.sweep.specs.Pass.{Pass, stopped, whole}
+use Rattle.outcome.specs.Run.{Run, refused, done}
 use Rattle.accuracy.specs.Solution.{Solution, InBox}
 use Rattle.accuracy.specs.Claim.{Narrowed}
 
@@ -52,10 +52,10 @@ module _ (s : System) where
   earlier f e x sol h = e x sol (f .keeps x sol h)
 
   -- a whole pass leaves a box that follows, and one that stops tells that no solution lies in the box before it
-  abbrev pub OnPass : List ℤ → Pass → Type 0
-  OnPass X (stopped i) = NoSolution X
-  OnPass X (whole c Y) = Follows X Y
+  abbrev pub OnPass : List ℤ → Run (List ℤ) → Type 0
+  OnPass X (refused o) = NoSolution X
+  OnPass X (done Y) = Follows X Y
 
   -- a way to pass over a box of the right length. The laws of calls and lists ask no more of a pass than this
-  pub record Faithful (p : List ℤ → Pass) : Type 0 where
+  pub record Faithful (p : List ℤ → Run (List ℤ)) : Type 0 where
     pub each : (X : List ℤ) → length X ≡ 2 * s .size → OnPass X (p X)

@@ -24,7 +24,9 @@ use Rattle.inputs.proofs.Place.{length-put, at-put-same, at-put-other}
 use Rattle.rows.specs.Sum.{RowSum}
 use Rattle.rows.specs.Exact.{nought, exactRow, Encloses}
 use Rattle.sweep.proofs.Pass.{not-empty}
-use Rattle.sweep.specs.Pass.{Pass, stopped, component, differs, sweepFrom, sweep}
+use Rattle.sweep.specs.Pass.{component, sweepFrom, sweep}
+use Rattle.outcome.specs.declared.Outcome.the-variants as outcome
+use Rattle.outcome.specs.Run.{Run, refused}
 use Rattle.accuracy.specs.Solution.{Solution, InBox}
 use Rattle.accuracy.proofs.Common.{same-trans}
 use Rattle.accuracy.proofs.Follows.{contains-refl, Follows, follows-refl, follows-trans, earlier, OnPass, Faithful}
@@ -105,24 +107,24 @@ module _ (sum : RowSum) (encloses : Encloses sum) (s : System) where
           go (no f) = rw (at-put-other X i j v f) old
 
   -- ---- the components i, i + 1, .., d of them, from a box X that follows the one before the sweep
-  from-follows : (d i : ℕ) (c : Bool) {X₀ X : List ℤ} → i + d ≡ s .size → length X ≡ 2 * s .size → Follows s X₀ X → OnPass s X₀ (sweepFrom sum s d i c X)
+  from-follows : (d i : ℕ) {X₀ X : List ℤ} → i + d ≡ s .size → length X ≡ 2 * s .size → Follows s X₀ X → OnPass s X₀ (sweepFrom sum s d i X)
   unfolding sweepFrom
-  from-follows zero i c e l f = f
-  from-follows (suc d) i c {X₀} {X} e l f =
+  from-follows zero i e l f = f
+  from-follows (suc d) i {X₀} {X} e l f =
       go (isEmpty v) refl (λ q.
       let g = put-follows X i (omega arith) l q in
-      from-follows d (i + 1) (c || differs (at X i) v) (omega arith) (g .as-long ∙ l) (follows-trans s f g))
+      from-follows d (i + 1) (omega arith) (g .as-long ∙ l) (follows-trans s f g))
     where
       v : Interval
       v = component sum s X i
 
-      rest : Pass
-      rest = sweepFrom sum s d (i + 1) (c || differs (at X i) v) (put X i v)
+      rest : Run (List ℤ)
+      rest = sweepFrom sum s d (i + 1) (put X i v)
 
-      go : (t : Bool) → isEmpty v ≡ t → (isEmpty v ≡ false → OnPass s X₀ rest) → OnPass s X₀ (cond t (stopped (i + 1)) rest)
+      go : (t : Bool) → isEmpty v ≡ t → (isEmpty v ≡ false → OnPass s X₀ rest) → OnPass s X₀ (cond t (refused (outcome.Empty (i + 1))) rest)
       go true q g = earlier s f (λ x sol k. held-not-empty q (component-inside X i (omega arith) x sol k))
       go false q g = g q
 
   pub sweep-faithful : Faithful s (sweep sum s)
   unfolding sweep
-  sweep-faithful = record { each = λ X l. from-follows (s .size) 0 false (zero-add (s .size)) l (follows-refl s X) }
+  sweep-faithful = record { each = λ X l. from-follows (s .size) 0 (zero-add (s .size)) l (follows-refl s X) }

@@ -12,12 +12,13 @@ use Rattle.interval.specs.declared.Interval.{Interval}
 use Rattle.fraction.specs.Meaning.{Contains}
 use Rattle.inputs.specs.Place.{at}
 use Rattle.inputs.specs.System.{System}
-use Rattle.sweep.specs.Pass.{differs}
-use Rattle.sweep.specs.Call.{Log, emptied, settled, spent, swept}
+use Rattle.outcome.specs.Run.{done}
+use Rattle.sweep.specs.Pass.{differs, differ}
+use Rattle.sweep.specs.Call.{Log, stopped, settled, spent, swept}
 use Rattle.accuracy.specs.Claim.{width, Narrowed}
-use Rattle.accuracy.specs.Beside.{differ, changing, widths, FewChanges}
+use Rattle.accuracy.specs.Changing.{changing, widths, FewChanges}
 use Rattle.accuracy.proofs.Follows.{Ordered}
-use Rattle.accuracy.proofs.Calls.{OnLog, OnAnswer, on-answer}
+use Rattle.accuracy.proofs.Calls.{OnLog, OnRun, on-run}
 
 -- ---- sums of widths of boxes without an empty interval
 widths-above : {n : ℕ} {X : List ℤ} → Ordered n X → (d j : ℕ) → j + d ≤ n → pos 0 ≤ℤ widths X d j
@@ -72,7 +73,7 @@ widths-less {X = X} {Y} h (suc d) j l =
 -- ---- the sweeps of a call
 log-few : (s : System) {X : List ℤ} (l : Log) → Ordered (s .size) X → OnLog s X l → pos (changing (s .size) l X) ≤ℤ widths X (s .size) 0
 unfolding changing
-log-few s (emptied i) o h = widths-above o (s .size) 0 (omega arith)
+log-few s (stopped r) o h = widths-above o (s .size) 0 (omega arith)
 log-few s settled o h = widths-above o (s .size) 0 (omega arith)
 log-few s spent o h = widths-above o (s .size) 0 (omega arith)
 log-few s {X} (swept Y l) o h =
@@ -83,4 +84,4 @@ log-few s {X} (swept Y l) o h =
     go = over 4 _ (λ ρ. simp linear (omega arith))
 
 pub few-changes : FewChanges
-few-changes s c X l e = let h = subst (OnAnswer s X) e (on-answer s c X) in log-few s l (h .0) (h .1)
+few-changes s c X l e = let h = subst (OnRun s X) e (on-run s c X) in log-few s l (h .0) (h .1)

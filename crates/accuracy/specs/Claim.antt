@@ -4,23 +4,21 @@ use mathlib.Core.List.{List, [], _∷_}
 use Prim.Native.Nat.{ℕ, _<_}
 use lib.Dec.{T}
 use lib.IntN.{ℤ, _-ℤ_, _*ℤ_}
-use lib.ListN.{length}
 use lib.Signed.{_≤ℤ_}
-use Rattle.outcome.specs.Table.{numberAndPlace}
+use Rattle.outcome.specs.Run.{Returned}
 use Rattle.interval.specs.declared.Interval.{Interval}
 use Rattle.fraction.specs.Fraction.{Fraction, Inside}
 use Rattle.fraction.specs.Meaning.{Contains}
 use Rattle.inputs.specs.Place.{at}
 use Rattle.inputs.specs.System.{System}
-use Rattle.outcome.specs.Run.{Run}
-use Rattle.elimination.specs.Call.{overA, overB, outcomeOf, boxAfter}
+use Rattle.elimination.specs.Call.{overA, overB}
 use Rattle.sweep.specs.Calls.{Call, Change, changes, anyEmpty}
 use Rattle.accuracy.specs.Solution.{Solution, InBox, balanceOf}
 
 -- 'Elimination accepted if it returned 0': an elimination call that was lent this box did so, and left X in it
-pub record Accepted (call : (boxLength : ℕ) → Run) (box X : List ℤ) : Type 0 where
-  pub returned : numberAndPlace (outcomeOf (call (length box))) .number ≡ 0
-  pub left : X ≡ boxAfter (call (length box)) box
+pub record Accepted (call : List ℤ → Returned (List ℤ)) (box X : List ℤ) : Type 0 where
+  pub returned : call box .number ≡ 0
+  pub left : X ≡ call box .left
 
 -- 'It begins with the box that elimination wrote, or with any box that the caller lends'
 pub data Start (s : System) (X : List ℤ) : Type 0 where

@@ -1,3 +1,4 @@
 pub mod Solution
 pub mod Claim
-pub mod Beside
+pub mod Changing
+pub mod Example

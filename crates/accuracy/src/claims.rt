@@ -1,6 +1,7 @@
 // Claims about what this crate defines; docs/API.md says what such a function is.
 ghost use Rattle.accuracy.specs.Claim.{AccuracyRule};
-ghost use Rattle.accuracy.specs.Beside.{FewChanges, Example};
+ghost use Rattle.accuracy.specs.Changing.{FewChanges};
+ghost use Rattle.accuracy.specs.Example.{Example};
 
 // No true weight leaves the bounds, and no bound widens, whatever list of sweep calls follows.
 pub fn accuracy_rule()
