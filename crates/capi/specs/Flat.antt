@@ -1,11 +1,14 @@
 -- The flat forms in which callers in other languages get an answer.
+use Rattle.outcome.specs.Run.{Returned}
+use Rattle.interval.specs.Interval.{ends}
 use Rattle.interval.specs.Answer.{Answer}
-use Rattle.outcome.specs.Table.{Row}
 use Rattle.capi.specs.declared.steps.KifwalebStep.{KifwalebStep}
 use Rattle.capi.specs.declared.systems.KifwalebOutcome.{KifwalebOutcome}
 
-abbrev pub answerOf : KifwalebStep → Answer
-answerOf r = record { number = r .number; place = r .place; lower = r .lo; upper = r .hi }
+-- a step's answer; a step has no count
+abbrev pub stepOf : KifwalebStep → Answer
+stepOf r = record { number = r .number; place = r .place; count = 0; left = ends (r .lo) (r .hi) }
 
-abbrev pub rowOf : KifwalebOutcome → Row
-rowOf r = record { number = r .number; place = r .place }
+-- any other answer, and what stands in the lent slice
+abbrev pub callOf : {A : Type 0} → KifwalebOutcome → A → Returned A
+callOf r a = record { number = r .number; place = r .place; count = r .count; left = a }

@@ -2,9 +2,10 @@ use interval::Interval;
 use interval::Step;
 use outcome::Outcome;
 ghost use mathlib.Core.Path.{_≡_};
-ghost use Rattle.interval.specs.Answer.{numberAndPlace, answer, sumAnswer, differenceAnswer, productAnswer, quotientAnswer};
+ghost use Rattle.outcome.specs.Run.{returned};
+ghost use Rattle.interval.specs.Answer.{answerOf, sumAnswer, differenceAnswer, productAnswer, quotientAnswer};
 ghost use Rattle.interval.specs.Interval.{ends};
-ghost use Rattle.capi.specs.Flat.{answerOf};
+ghost use Rattle.capi.specs.Flat.{stepOf};
 
 // A step's answer for callers in C and Rust: document 01's number and place, and the interval's ends, which are 0 on a refusal.
 #[repr(C)]
@@ -16,7 +17,7 @@ pub struct KifwalebStep {
 }
 
 fn returned(o: Outcome, v: Interval) -> KifwalebStep
-    ensures { λ r. ⌜ answerOf r ≡ answer o v ⌝ }
+    ensures { λ r. ⌜ stepOf r ≡ returned o 0 v ⌝ }
 {
     let number = o.number();
     let place = o.place() as u64;
@@ -31,7 +32,7 @@ fn returned(o: Outcome, v: Interval) -> KifwalebStep
 }
 
 fn flat(s: Step) -> KifwalebStep
-    ensures { λ r. ⌜ answerOf r ≡ numberAndPlace s ⌝ }
+    ensures { λ r. ⌜ stepOf r ≡ answerOf s ⌝ }
 {
     match s {
         Step::Value(v) => returned(Outcome::Done, v),
@@ -44,7 +45,7 @@ fn flat(s: Step) -> KifwalebStep
 // The four steps, each over the ends of two intervals.
 #[no_mangle]
 pub extern "C" fn kifwaleb_sum(a_lo: i64, a_hi: i64, b_lo: i64, b_hi: i64) -> KifwalebStep
-    ensures { λ r. ⌜ answerOf r ≡ sumAnswer (ends «a_lo» «a_hi») (ends «b_lo» «b_hi») ⌝ }
+    ensures { λ r. ⌜ stepOf r ≡ sumAnswer (ends «a_lo» «a_hi») (ends «b_lo» «b_hi») ⌝ }
 {
     let a = Interval { lo: a_lo, hi: a_hi };
     let b = Interval { lo: b_lo, hi: b_hi };
@@ -53,7 +54,7 @@ pub extern "C" fn kifwaleb_sum(a_lo: i64, a_hi: i64, b_lo: i64, b_hi: i64) -> Ki
 
 #[no_mangle]
 pub extern "C" fn kifwaleb_difference(a_lo: i64, a_hi: i64, b_lo: i64, b_hi: i64) -> KifwalebStep
-    ensures { λ r. ⌜ answerOf r ≡ differenceAnswer (ends «a_lo» «a_hi») (ends «b_lo» «b_hi») ⌝ }
+    ensures { λ r. ⌜ stepOf r ≡ differenceAnswer (ends «a_lo» «a_hi») (ends «b_lo» «b_hi») ⌝ }
 {
     let a = Interval { lo: a_lo, hi: a_hi };
     let b = Interval { lo: b_lo, hi: b_hi };
@@ -62,7 +63,7 @@ pub extern "C" fn kifwaleb_difference(a_lo: i64, a_hi: i64, b_lo: i64, b_hi: i64
 
 #[no_mangle]
 pub extern "C" fn kifwaleb_product(a_lo: i64, a_hi: i64, b_lo: i64, b_hi: i64) -> KifwalebStep
-    ensures { λ r. ⌜ answerOf r ≡ productAnswer (ends «a_lo» «a_hi») (ends «b_lo» «b_hi») ⌝ }
+    ensures { λ r. ⌜ stepOf r ≡ productAnswer (ends «a_lo» «a_hi») (ends «b_lo» «b_hi») ⌝ }
 {
     let a = Interval { lo: a_lo, hi: a_hi };
     let b = Interval { lo: b_lo, hi: b_hi };
@@ -71,7 +72,7 @@ pub extern "C" fn kifwaleb_product(a_lo: i64, a_hi: i64, b_lo: i64, b_hi: i64) -
 
 #[no_mangle]
 pub extern "C" fn kifwaleb_quotient(a_lo: i64, a_hi: i64, b_lo: i64, b_hi: i64) -> KifwalebStep
-    ensures { λ r. ⌜ answerOf r ≡ quotientAnswer (ends «a_lo» «a_hi») (ends «b_lo» «b_hi») ⌝ }
+    ensures { λ r. ⌜ stepOf r ≡ quotientAnswer (ends «a_lo» «a_hi») (ends «b_lo» «b_hi») ⌝ }
 {
     let a = Interval { lo: a_lo, hi: a_hi };
     let b = Interval { lo: b_lo, hi: b_hi };

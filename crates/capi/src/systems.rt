@@ -2,11 +2,10 @@ use elimination::eliminate;
 use elimination::eliminate_balance;
 use outcome::Outcome;
 ghost use mathlib.Core.Path.{_≡_};
-ghost use lib.ListN.{length};
-ghost use Rattle.outcome.specs.Table.{numberAndPlace};
+ghost use Rattle.outcome.specs.Run.{returned};
 ghost use Rattle.inputs.specs.System.{system};
-ghost use Rattle.elimination.specs.Call.{overA, overB, outcomeOf, boxAfter};
-ghost use Rattle.capi.specs.Flat.{rowOf};
+ghost use Rattle.elimination.specs.Call.{overA, overB};
+ghost use Rattle.capi.specs.Flat.{callOf};
 
 // A call's answer: document 01's number and place, and a count: of whole sweeps, of the bytes of a sheet, and 0 for an elimination.
 #[repr(C)]
@@ -17,7 +16,7 @@ pub struct KifwalebOutcome {
 }
 
 pub(crate) fn counted(o: Outcome, count: usize) -> KifwalebOutcome
-    ensures { λ r. ⌜ (rowOf r ≡ numberAndPlace o) × (r .count ≡ count) ⌝ }
+    ensures { λ r. ⌜ callOf r count ≡ returned o count count ⌝ }
 {
     let number = o.number();
     let place = o.place() as u64;
@@ -37,9 +36,7 @@ pub extern "C" fn kifwaleb_eliminate(
     f: &[i64],
     bounds: &mut [i64],
 ) -> KifwalebOutcome
-    ensures outcome { λ r. ⌜ rowOf r ≡ numberAndPlace (outcomeOf (overA (system n (now (a .entry)) (now (f .entry))) (length (now (bounds .entry))))) ⌝ }
-    ensures counted { λ r. ⌜ r .count ≡ 0 ⌝ }
-    ensures written { λ r. ⌜ now (bounds .exit) ≡ boxAfter (overA (system n (now (a .entry)) (now (f .entry))) (length (now (bounds .entry)))) (now (bounds .entry)) ⌝ }
+    ensures { λ r. ⌜ callOf r (now (bounds .exit)) ≡ overA (system n (now (a .entry)) (now (f .entry))) (now (bounds .entry)) ⌝ }
 {
     let o = eliminate(n, a, f, bounds);
     counted(o, 0)
@@ -53,9 +50,7 @@ pub extern "C" fn kifwaleb_eliminate_balance(
     b: &[i64],
     bounds: &mut [i64],
 ) -> KifwalebOutcome
-    ensures outcome { λ r. ⌜ rowOf r ≡ numberAndPlace (outcomeOf (overB (system n (now («b_matrix» .entry)) (now (b .entry))) (length (now (bounds .entry))))) ⌝ }
-    ensures counted { λ r. ⌜ r .count ≡ 0 ⌝ }
-    ensures written { λ r. ⌜ now (bounds .exit) ≡ boxAfter (overB (system n (now («b_matrix» .entry)) (now (b .entry))) (length (now (bounds .entry)))) (now (bounds .entry)) ⌝ }
+    ensures { λ r. ⌜ callOf r (now (bounds .exit)) ≡ overB (system n (now («b_matrix» .entry)) (now (b .entry))) (now (bounds .entry)) ⌝ }
 {
     let o = eliminate_balance(n, b_matrix, b, bounds);
     counted(o, 0)

@@ -1,6 +1,6 @@
 use mathlib.Core.Path.{sym, ap, _∙_}
 use borrow.Author.Needs.{needs}
-use Rattle.interval.specs.Answer.{numberAndPlace}
+use Rattle.interval.specs.Answer.{answerOf}
 use Rattle.capi.proofs.steps.flat.Statement.{statement}
 use Rattle.capi.proofs.steps.flat.Tie as tie
 
@@ -29,16 +29,16 @@ returned-requires-4 : tie.Need-returned-requires-4
 returned-requires-4 c κs = search needs
 
 returns : tie.Need-returns
-returns c = c .returned .ensures ∙ ap numberAndPlace (sym (c .before .before .s .given .1))
+returns c = c .returned .ensures ∙ ap answerOf (sym (c .before .before .s .given .1))
 
 returns-2 : tie.Need-returns-2
-returns-2 c = c .returned2 .ensures ∙ ap numberAndPlace (sym (c .before .before .s2 .given .1))
+returns-2 c = c .returned2 .ensures ∙ ap answerOf (sym (c .before .before .s2 .given .1))
 
 returns-3 : tie.Need-returns-3
-returns-3 c = c .returned3 .ensures ∙ ap numberAndPlace (sym (c .before .enum-told .given .1))
+returns-3 c = c .returned3 .ensures ∙ ap answerOf (sym (c .before .enum-told .given .1))
 
 returns-4 : tie.Need-returns-4
-returns-4 c = c .returned4 .ensures ∙ ap numberAndPlace (sym (c .before .enum-told2 .given .1))
+returns-4 c = c .returned4 .ensures ∙ ap answerOf (sym (c .before .enum-told2 .given .1))
 
 pub flat-spec : {M : Type 1} → statement M
 flat-spec =

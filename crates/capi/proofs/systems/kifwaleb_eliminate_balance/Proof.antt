@@ -1,5 +1,6 @@
 use borrow.Author.Needs.{needs}
 use mathlib.Core.Path.{_∙_}
+use Rattle.capi.proofs.Flat.{call-left}
 use Rattle.capi.proofs.systems.kifwaleb_eliminate_balance.Statement.{statement}
 use Rattle.capi.proofs.systems.kifwaleb_eliminate_balance.Tie as tie
 
@@ -13,9 +14,7 @@ same-length : tie.Need-same-length
 same-length c = search needs
 
 returns : tie.Need-returns
-returns c =
-    let e = c .before .before .eliminate-balance .ensures in
-    (c .counted .ensures .0 ∙ e .0, (c .counted .ensures .1, e .1))
+returns c = call-left _ (c .counted .ensures) ∙ c .before .before .eliminate-balance .ensures
 
 pub kifwaleb-eliminate-balance-spec : {M : Type 1} → statement M
 kifwaleb-eliminate-balance-spec =
