@@ -1,16 +1,15 @@
 -- What is handed out of the numbers of a text, by the lengths of the lent slices.
-use mathlib.Core.Path.{_≡_, sym, ap, ap₂, _∙_}
+use mathlib.Core.Path.{_≡_, ap₂, _∙_}
 use mathlib.Core.List.{List}
 use Prim.Native.Nat.{ℕ, _+_, _-_, _*_}
 use native.Mathlib.Omega.{arith}
 use borrow.Author.Tests.{eqb-true}
-use lib.Dec.{eqb}
 use lib.IntN.{ℤ}
 use lib.ListN.{length, take, drop}
 use lib.Seq.{paste}
 use Rattle.outcome.specs.declared.Outcome.{Outcome}
 use Rattle.outcome.specs.declared.Outcome.the-variants as outcome
-use Rattle.outcome.specs.Run.{Run, done, andThen, Returned, returned, ended}
+use Rattle.outcome.specs.Run.{andThen, Returned, returned, ended}
 use Rattle.inputs.specs.declared.Test.the-variants.{Pass, Fail}
 use Rattle.inputs.specs.Tests.{lengths, tested}
 use Rattle.inputs.proofs.Tests.{both-pass, need-pass}
@@ -19,7 +18,7 @@ use Rattle.text.specs.declared.internal.lines.Heading.{Heading}
 use Rattle.text.specs.declared.internal.lines.Reading as code
 use Rattle.text.specs.declared.internal.lines.Reading.the-variants as whole
 use Rattle.text.specs.Text.{reading}
-use Rattle.text.specs.Call.{Lent, lent, room, filled, read}
+use Rattle.text.specs.Call.{Lent, lent, room, read}
 use Rattle.text.specs.Code.{readingIs, handed}
 
 -- ---- by the test of the lengths

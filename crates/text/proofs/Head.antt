@@ -20,7 +20,7 @@ use Rattle.text.specs.declared.internal.lines.Rows.the-variants as lines
 use Rattle.text.specs.declared.internal.lines.Reading.the-variants as whole
 use Rattle.text.specs.Parts.{parts, fields}
 use Rattle.text.specs.Names.{areNames}
-use Rattle.text.specs.Text.{faulty, Head, firstLine, head, rowsFrom, Cellar, cellar, afterHead, reading}
+use Rattle.text.specs.Text.{faulty, Head, firstLine, head, rowsFrom, Cellar, afterHead, reading}
 use Rattle.text.specs.Code.{firstFrom, namesOf, Few, rowsAre, Headed, readingIs}
 use Rattle.text.proofs.Parts.{parts-at, parts-none, parts-some}
 use Rattle.text.proofs.Lines.{row-after}

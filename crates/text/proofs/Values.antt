@@ -21,7 +21,7 @@ use Rattle.text.specs.declared.internal.search.Found.the-variants.{At, N
 use Rattle.text.specs.declared.internal.number.Number.{Number}
 use Rattle.text.specs.declared.internal.number.Number.the-variants.{Units}
 use Rattle.text.specs.Parts.{parts, fields}
-use Rattle.text.specs.Number.{isDigit, digits, plain, magnitude, below, number, ends, value, then, values}
+use Rattle.text.specs.Number.{isDigit, digits, plain, magnitude, below, number, bothEnds, value, then, values}
 use Rattle.text.specs.Code.{firstIn, firstFrom, numberOf, pair}
 use Rattle.text.proofs.Parts.{parts-at, parts-none, parts-some, to-end}
 
@@ -60,22 +60,22 @@ number-colon (b ∷ s) i k e = rw (magnitude-colon (b ∷ s) i k e) (go (eqb b 4
         rw (magnitude-colon s (i + 1) k q)
     go false f = refl
 
-two : (l u : List ℕ) → pair (number l) (number u) ≡ ends (l ∷ parts 58 u)
-unfolding ends bind firstFrom
+two : (l u : List ℕ) → pair (number l) (number u) ≡ bothEnds (l ∷ parts 58 u)
+unfolding bothEnds bind firstFrom
 two l u = go (firstFrom u 0 58) refl
   where
-    more : (p : List ℕ) (ps : List (List ℕ)) → 1 ≤ length ps → none ≡ ends (l ∷ (p ∷ ps))
+    more : (p : List ℕ) (ps : List (List ℕ)) → 1 ≤ length ps → none ≡ bothEnds (l ∷ (p ∷ ps))
     more p [] h = absurd (omega arith)
     more p (q ∷ ps) h = refl
 
-    go : (r : Found) → firstFrom u 0 58 ≡ r → pair (number l) (number u) ≡ ends (l ∷ parts 58 u)
+    go : (r : Found) → firstFrom u 0 58 ≡ r → pair (number l) (number u) ≡ bothEnds (l ∷ parts 58 u)
     go Nothing e = rw (parts-none u 0 58 e)
     go (At k) e = rw (number-colon u 0 k e, parts-at u 0 58 k e) (bind-none (number l) ∙ more (take (k - 0) u) (parts 58 (drop (k + 1) u)) (parts-some 58 (drop (k + 1) u)))
 
 -- ---- a value; the bytes after the ':' are a part of the field up to its end
 module _ (f : List ℕ) where
   pub value-none : firstFrom f 0 58 ≡ Nothing → none ≡ value f
-  unfolding value ends
+  unfolding value bothEnds
   value-none e = rw (parts-none f 0 58 e)
 
   pub value-ends : {c : ℕ} {r : Option (List ℤ)} (g h : Option ℤ)

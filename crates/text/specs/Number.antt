@@ -38,15 +38,15 @@ number [] = none
 number (b ∷ s) = cond (eqb b (code "-")) (bind (magnitude s) below) (bind (magnitude (b ∷ s)) (λ m. some (pos m)))
 
 -- the two ends of a value
-unfoldable pub ends : List (List ℕ) → Option (List ℤ)
-ends [] = none
-ends (l ∷ []) = none
-ends (l ∷ (u ∷ [])) = bind (number l) (λ lo. bind (number u) (λ hi. some (lo ∷ hi ∷ [])))
-ends (l ∷ (u ∷ (p ∷ ps))) = none
+unfoldable pub bothEnds : List (List ℕ) → Option (List ℤ)
+bothEnds [] = none
+bothEnds (l ∷ []) = none
+bothEnds (l ∷ (u ∷ [])) = bind (number l) (λ lo. bind (number u) (λ hi. some (lo ∷ hi ∷ [])))
+bothEnds (l ∷ (u ∷ (p ∷ ps))) = none
 
 -- 'lower ':' upper'
 unfoldable pub value : List ℕ → Option (List ℤ)
-value f = ends (parts (code ":") f)
+value f = bothEnds (parts (code ":") f)
 
 -- these numbers, and then those
 unfoldable pub then : Option (List ℤ) → Option (List ℤ) → Option (List ℤ)

@@ -47,7 +47,8 @@ fn value_of(field: &[u8]) -> Value
 // Reads a value to position p of t; false if the field is none.
 fn place_value(field: &[u8], t: &mut [i64], p: usize) -> bool
     requires { ⌜ 2 * (p + 1) ≤ length (now t) ⌝ }
-    ensures { λ r. ⌜ onlyIf r (take (2 * (p + 1)) (now (t .exit))) ≡ then (some (take (2 * p) (now (t .entry)))) (value (now (field .entry))) ⌝ }
+    ensures { λ r. ⌜ onlyIf r (take (2 * (p + 1)) (now (t .exit)))
+        ≡ then (some (take (2 * p) (now (t .entry)))) (value (now (field .entry))) ⌝ }
 {
     match value_of(field) {
         Value::Bounds(v) => {
@@ -61,7 +62,8 @@ fn place_value(field: &[u8], t: &mut [i64], p: usize) -> bool
 // Reads a line of n values to position p of t and on; false if the line is not one.
 pub fn read_values(line: &[u8], n: usize, t: &mut [i64], p: usize) -> bool
     requires { ⌜ (1 ≤ n) × (2 * (p + n) ≤ length (now t)) ⌝ }
-    ensures { λ r. ⌜ onlyIf r (take (2 * (p + n)) (now (t .exit))) ≡ then (some (take (2 * p) (now (t .entry)))) (values n (fields (now (line .entry)))) ⌝ }
+    ensures { λ r. ⌜ onlyIf r (take (2 * (p + n)) (now (t .exit)))
+        ≡ then (some (take (2 * p) (now (t .entry)))) (values n (fields (now (line .entry)))) ⌝ }
 {
     let mut at = 0;
     for i in 0..n - 1 {
