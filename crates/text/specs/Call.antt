@@ -21,7 +21,7 @@ pub record Lent : Type 0 where
 abbrev pub lent : (matrix right : List ℤ) → Lent
 lent m r = record { matrix = m; right = r }
 
--- they have room for 32 vats, exactly
+-- test 2: they have room for 32 vats, exactly
 abbrev pub room : Lent → Test
 room s = lengths (slice 1 (length (s .matrix)) 2_048 ∷ slice 2 (length (s .right)) 64 ∷ [])
 
@@ -33,7 +33,7 @@ over zs lent = zs ++ drop (length zs) lent
 abbrev pub filled : Lent → System → Returned Lent
 filled s b = returned outcome.Done (b .size) (lent (over (b .matrix) (s .matrix)) (over (b .right) (s .right)))
 
--- 'Tests run in the sequence 8, 1, 2': here 8 and then 2
+-- 'Tests run in the sequence 8, 1, 2, 4, 3, then the calculation': here 8, then 2
 unfoldable pub read : List ℕ → Lent → Returned Lent
 read text s = ended (filled s) s (andThen (reading text) (λ c. tested (room s) (done (c .balance))))
 
