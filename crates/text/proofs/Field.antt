@@ -7,15 +7,16 @@ use native.Mathlib.Nat.{zero-add}
 use lib.ListN.{length, take, drop, length-drop}
 use lib.Seq.{length-take-le}
 use Rattle.text.specs.declared.internal.search.Found.the-variants.{Nothing}
-use Rattle.text.specs.Parts.{firstFrom, parts, part, startOf}
+use Rattle.text.specs.Parts.{fields, part, startOf}
+use Rattle.text.specs.Code.{firstFrom}
 use Rattle.text.proofs.Parts.{FirstAt, parts-at, parts-none}
 
 -- i parts are passed and the next one starts at `at`: the part with the number k is then the one with the number k − i from there
 pub record Reached (line : List ℕ) (k i at : ℕ) : Type 0 where
   pub inside : at ≤ length line
-  pub more : k - i < length (parts 59 (drop at line))
-  pub start : at + startOf (parts 59 (drop at line)) (k - i) ≡ startOf (parts 59 line) k
-  pub same : part (parts 59 (drop at line)) (k - i) ≡ part (parts 59 line) k
+  pub more : k - i < length (fields (drop at line))
+  pub start : at + startOf (fields (drop at line)) (k - i) ≡ startOf (fields line) k
+  pub same : part (fields (drop at line)) (k - i) ≡ part (fields line) k
 
 -- a part that a separator ends at e has the bytes up to it
 cut-length : (line : List ℕ) (at e : ℕ) → FirstAt line at 59 e → length (take (e - at) (drop at line)) ≡ e - at
@@ -27,10 +28,10 @@ start-none [] = refl
 start-none (p ∷ ps) = refl
 
 module _ (line : List ℕ) (k : ℕ) where
-  pub reached-first : k < length (parts 59 line) → Reached line k 0 0
+  pub reached-first : k < length (fields line) → Reached line k 0 0
   reached-first h =
       let z : k - 0 ≡ k = omega arith in
-      record { inside = omega arith; more = rw z h; start = rw z (zero-add (startOf (parts 59 line) k)); same = rw z }
+      record { inside = omega arith; more = rw z h; start = rw z (zero-add (startOf (fields line) k)); same = rw z }
 
   -- past the separator at e starts the next part
   pub reached-next : (i at e : ℕ) → Reached line k i at → i < k → FirstAt line at 59 e → Reached line k (i + 1) (e + 1)
@@ -47,7 +48,7 @@ module _ (line : List ℕ) (k : ℕ) where
   pub reached-not : {A : Type 0} (i at : ℕ) → Reached line k i at → i < k → firstFrom line at 59 ≡ Nothing → A
   reached-not i at r h f = let m = rw (parts-none line at 59 f) at (r .more) in absurd (omega (arith, m))
 
-  pub reached-last : (i at : ℕ) → Reached line k i at → k ≤ i → ((at ≡ startOf (parts 59 line) k) × (at ≤ length line)) × (part (parts 59 (drop at line)) 0 ≡ part (parts 59 line) k)
+  pub reached-last : (i at : ℕ) → Reached line k i at → k ≤ i → ((at ≡ startOf (fields line) k) × (at ≤ length line)) × (part (fields (drop at line)) 0 ≡ part (fields line) k)
   reached-last i at r h =
       let z : k - i ≡ 0 = omega arith in
       let s = rw (z, start-none) at (r .start) in
@@ -55,10 +56,10 @@ module _ (line : List ℕ) (k : ℕ) where
 
 -- where the part that starts at `at` stops
 module _ (line : List ℕ) (at : ℕ) where
-  pub stop-at : (e : ℕ) → FirstAt line at 59 e → (e ≡ at + length (part (parts 59 (drop at line)) 0)) × (e ≤ length line)
+  pub stop-at : (e : ℕ) → FirstAt line at 59 e → (e ≡ at + length (part (fields (drop at line)) 0)) × (e ≤ length line)
   unfolding part
   stop-at e f = (rw (parts-at line at 59 e (f .is), cut-length line at e f) (omega arith), omega arith)
 
-  pub stop-none : at ≤ length line → firstFrom line at 59 ≡ Nothing → (length line ≡ at + length (part (parts 59 (drop at line)) 0)) × (length line ≤ length line)
+  pub stop-none : at ≤ length line → firstFrom line at 59 ≡ Nothing → (length line ≡ at + length (part (fields (drop at line)) 0)) × (length line ≤ length line)
   unfolding part
   stop-none h f = (rw (parts-none line at 59 f, length-drop at line) (omega arith), omega arith)

@@ -9,7 +9,8 @@ use borrow.Author.Tests.{le-leb, lt-leb}
 use lib.IntN.{ℤ}
 use lib.ListN.{length, take, drop}
 use lib.Seq.{take-take, take-add, drop-at, length-take-le}
-use Rattle.inputs.specs.Tests.{system}
+use Rattle.outcome.specs.Run.{Run, done, andThen}
+use Rattle.inputs.specs.System.{system}
 use Rattle.inputs.proofs.Tests.{square}
 use Rattle.text.specs.declared.internal.search.Found.the-variants.{At, Nothing}
 use Rattle.text.specs.declared.internal.names.Names.the-variants as names
@@ -17,10 +18,10 @@ use Rattle.text.specs.declared.internal.lines.Heading.{Heading}
 use Rattle.text.specs.declared.internal.lines.Rows as code
 use Rattle.text.specs.declared.internal.lines.Rows.the-variants as lines
 use Rattle.text.specs.declared.internal.lines.Reading.the-variants as whole
-use Rattle.text.specs.Parts.{firstFrom, parts}
+use Rattle.text.specs.Parts.{parts, fields}
 use Rattle.text.specs.Names.{areNames}
-use Rattle.text.specs.Text.{wrong, head, firstLine, headOf, namesIn, rowsFrom, fault, balance, balanced, reading}
-use Rattle.text.specs.Code.{namesOf, Few, rowsAre, Headed, readingIs}
+use Rattle.text.specs.Text.{faulty, Head, firstLine, head, rowsFrom, Cellar, afterHead, reading}
+use Rattle.text.specs.Code.{firstFrom, namesOf, Few, rowsAre, Headed, readingIs}
 use Rattle.text.proofs.Parts.{parts-at, parts-none, parts-some}
 use Rattle.text.proofs.Lines.{row-after}
 
@@ -35,32 +36,32 @@ count-not false m e = refl
 
 -- ---- line 1
 module _ (s : List ℕ) where
-  pub head-long : 65536 < length s → headOf s ≡ wrong 0
-  unfolding headOf
-  head-long h = rw (lt-leb (length s) 65536 h)
+  pub head-long : 65_536 < length s → head s ≡ faulty 0
+  unfolding head
+  head-long h = rw (lt-leb (length s) 65_536 h)
 
-  module _ (h : length s ≤ 65536) where
-    pub head-unended : firstFrom s 0 10 ≡ Nothing → headOf s ≡ wrong 1
-    unfolding headOf firstLine
-    head-unended f = rw (le-leb (length s) 65536 h, parts-none s 0 10 f)
+  module _ (h : length s ≤ 65_536) where
+    pub head-unended : firstFrom s 0 10 ≡ Nothing → head s ≡ faulty 1
+    unfolding head firstLine
+    head-unended f = rw (le-leb (length s) 65_536 h, parts-none s 0 10 f)
 
     module _ {e : ℕ} (f : firstFrom s 0 10 ≡ At e) where
-      head-by : headOf s ≡ cond (areNames (parts 59 (take e s))) (head (take e s) (parts 10 (drop (e + 1) s))) (wrong 1)
-      unfolding headOf firstLine
-      head-by = rw (le-leb (length s) 65536 h, parts-at s 0 10 e f, sub-zero e) (more (parts 10 (drop (e + 1) s)) (parts-some 10 (drop (e + 1) s)))
+      head-by : head s ≡ cond (areNames (fields (take e s))) (done (record { names = take e s; rest = parts 10 (drop (e + 1) s) })) (faulty 1)
+      unfolding head firstLine
+      head-by = rw (le-leb (length s) 65_536 h, parts-at s 0 10 e f, sub-zero e) (more (parts 10 (drop (e + 1) s)) (parts-some 10 (drop (e + 1) s)))
         where
-          more : (ps : List (List ℕ)) → 1 ≤ length ps → firstLine (take e s ∷ ps) ≡ cond (areNames (parts 59 (take e s))) (head (take e s) ps) (wrong 1)
+          more : (ps : List (List ℕ)) → 1 ≤ length ps → firstLine (take e s ∷ ps) ≡ cond (areNames (fields (take e s))) (done (record { names = take e s; rest = ps })) (faulty 1)
           more [] k = absurd (omega arith)
           more (p ∷ ps) k = refl
 
-      pub head-faulty : namesOf (take e s) ≡ names.Faulty → headOf s ≡ wrong 1
+      pub head-faulty : namesOf (take e s) ≡ names.Faulty → head s ≡ faulty 1
       unfolding namesOf
-      head-faulty q = let b = count-not (areNames (parts 59 (take e s))) (namesIn (take e s)) q in head-by ∙ rw b
+      head-faulty q = let b = count-not (areNames (fields (take e s))) (length (fields (take e s))) q in head-by ∙ rw b
 
       pub head-named : {n : ℕ} → namesOf (take e s) ≡ names.Count n → Few (take e s) (names.Count n) → e < length s → Headed s (record { count = n; stop = e })
       unfolding namesOf
       head-named {n} q w k =
-          let b = count-is (areNames (parts 59 (take e s))) (namesIn (take e s)) q in
+          let b = count-is (areNames (fields (take e s))) (length (fields (take e s))) q in
           record {
             is = head-by ∙ rw (b .0);
             counted = b .1;
@@ -71,8 +72,8 @@ module _ (s : List ℕ) where
           }
 
 -- ---- the whole text
-pub text-head : (s : List ℕ) {k : ℕ} → headOf s ≡ wrong k → fault k ≡ reading s
-unfolding reading
+pub text-head : (s : List ℕ) {k : ℕ} → head s ≡ faulty k → faulty k ≡ reading s
+unfolding reading andThen
 text-head s e = rw e
 
 -- the numbers of b after those of B
@@ -90,18 +91,23 @@ module _ {s : List ℕ} {h : Heading} (w : Headed s h) where
   pub stops : length (take (h .stop) s) ≡ h .stop
   stops = length-take-le (h .stop) s (omega (arith, w .inside))
 
-  reading-by : reading s ≡ balanced (take (h .stop) s) (rowsFrom (h .count) (h .count + 1) 2 (parts 10 (drop (h .stop + 1) s)))
-  unfolding reading
+  abbrev first : Head
+  first = record { names = take (h .stop) s; rest = parts 10 (drop (h .stop + 1) s) }
+
+  reading-by : reading s ≡ afterHead (h .count) first
+  unfolding reading andThen
   reading-by = rw (w .is, w .counted)
 
-  pub text-faulty : {k : ℕ} {r : code.Rows} (z : List ℤ) → r ≡ lines.Faulty k → rowsAre r z ≡ rowsFrom (h .count) (h .count + 1) 2 (parts 10 (drop (h .stop + 1) s)) → fault k ≡ reading s
-  text-faulty z q e = sym (reading-by ∙ ap (balanced (take (h .stop) s)) (sym e ∙ ap (λ x. rowsAre x z) q))
+  pub text-faulty : {k : ℕ} {r : code.Rows} (z : List ℤ) → r ≡ lines.Faulty k
+      → rowsAre r z ≡ rowsFrom (h .count) (h .count + 1) 2 (first .rest) → faulty k ≡ reading s
+  unfolding andThen
+  text-faulty z q e = sym (reading-by ∙ rw (← e, q))
 
-  pub text-balance : {r : code.Rows} (t : List ℤ) → length t ≡ 2112 → r ≡ lines.Whole → rowsAre r (take (2 * ((h .count + 1) * h .count)) t) ≡ rowsFrom (h .count) (h .count + 1) 2 (parts 10 (drop (h .stop + 1) s))
+  pub text-balance : {r : code.Rows} (t : List ℤ) → length t ≡ 2112 → r ≡ lines.Whole
+      → rowsAre r (take (2 * ((h .count + 1) * h .count)) t) ≡ rowsFrom (h .count) (h .count + 1) 2 (first .rest)
       → readingIs s (whole.Balance h) t ≡ reading s
+  unfolding andThen
   text-balance t l q e =
       let n = h .count in
       let p = split n t (w .few) l in
-      ap₂ (λ m r. balance (take (h .stop) s) (system n m r)) (p .0) (p .1)
-      ∙ ap (λ m. balance (take (h .stop) s) (system m (take (2 * (m * m)) (take (2 * ((n + 1) * n)) t)) (drop (2 * (m * m)) (take (2 * ((n + 1) * n)) t)))) (w .counted)
-      ∙ sym (reading-by ∙ ap (balanced (take (h .stop) s)) (sym e ∙ ap (λ x. rowsAre x (take (2 * ((n + 1) * n)) t)) q))
+      ap₂ {C = Run Cellar} (λ m r. done (record { names = take (h .stop) s; balance = system n m r })) (p .0) (p .1) ∙ sym (reading-by ∙ rw (← e, q))

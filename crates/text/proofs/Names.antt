@@ -14,11 +14,10 @@ use Rattle.interval.proofs.Range.{and-both}
 use Rattle.text.specs.declared.internal.search.Found.the-variants.{At, Nothing}
 use Rattle.text.specs.declared.internal.names.Names.{Names}
 use Rattle.text.specs.declared.internal.names.Names.the-variants.{Count, Faulty}
-use Rattle.text.specs.Parts.{firstFrom, parts}
+use Rattle.text.specs.Parts.{fields}
 use Rattle.text.specs.Number.{isDigit}
 use Rattle.text.specs.Names.{nameByte, allBytes, isName, same, among, eachName, areNames}
-use Rattle.text.specs.Text.{namesIn}
-use Rattle.text.specs.Code.{namesOf}
+use Rattle.text.specs.Code.{firstFrom, namesOf}
 use Rattle.text.proofs.Parts.{parts-none, parts-at, parts-some}
 
 -- ---- the bytes of a name
@@ -116,15 +115,15 @@ or-no false = refl
 
 -- from a place of what follows a name
 module _ (s name : List ℕ) (at : ℕ) where
-  pub among-last : firstFrom s at 59 ≡ Nothing → among name (parts 59 (drop at s)) ≡ same (drop at s) name
+  pub among-last : firstFrom s at 59 ≡ Nothing → among name (fields (drop at s)) ≡ same (drop at s) name
   unfolding among
   among-last f = rw (parts-none s at 59 f) (or-no _)
 
-  pub among-here : (e : ℕ) → firstFrom s at 59 ≡ At e → same (take (e - at) (drop at s)) name ≡ true → among name (parts 59 (drop at s)) ≡ true
+  pub among-here : (e : ℕ) → firstFrom s at 59 ≡ At e → same (take (e - at) (drop at s)) name ≡ true → among name (fields (drop at s)) ≡ true
   unfolding among
   among-here e f h = rw (parts-at s at 59 e f, h)
 
-  pub among-go : (e : ℕ) → firstFrom s at 59 ≡ At e → same (take (e - at) (drop at s)) name ≡ false → among name (parts 59 (drop at s)) ≡ among name (parts 59 (drop (e + 1) s))
+  pub among-go : (e : ℕ) → firstFrom s at 59 ≡ At e → same (take (e - at) (drop at s)) name ≡ false → among name (fields (drop at s)) ≡ among name (fields (drop (e + 1) s))
   unfolding among
   among-go e f h = rw (parts-at s at 59 e f, h)
 
@@ -137,13 +136,13 @@ and-no : (t : Bool) → (t && false) ≡ false
 and-no true = refl
 and-no false = refl
 
-pub counted-all : (l : List ℕ) → counted 0 (parts 59 (drop 0 l)) ≡ namesOf l
-unfolding counted namesOf namesIn areNames
+pub counted-all : (l : List ℕ) → counted 0 (fields (drop 0 l)) ≡ namesOf l
+unfolding counted namesOf areNames
 counted-all l = rw zero-add
 
-pub counted-many : (n : ℕ) (s : List ℕ) → 32 ≤ n → counted n (parts 59 s) ≡ Faulty
+pub counted-many : (n : ℕ) (s : List ℕ) → 32 ≤ n → counted n (fields s) ≡ Faulty
 unfolding counted
-counted-many n s h = rw (lt-leb (n + length (parts 59 s)) 32 (omega (arith, parts-some 59 s)))
+counted-many n s h = rw (lt-leb (n + length (fields s)) 32 (omega (arith, parts-some 59 s)))
 
 -- a name from a place on: it ends before e, or with the line
 module _ (l : List ℕ) (at : ℕ) where
@@ -157,25 +156,25 @@ module _ (l : List ℕ) (at : ℕ) where
 
 -- the part from a place on, after n names
 module _ (l : List ℕ) (n at : ℕ) where
-  pub counted-last : firstFrom l at 59 ≡ Nothing → n < 32 → isName (drop at l) ≡ true → counted n (parts 59 (drop at l)) ≡ Count (n + 1)
+  pub counted-last : firstFrom l at 59 ≡ Nothing → n < 32 → isName (drop at l) ≡ true → counted n (fields (drop at l)) ≡ Count (n + 1)
   unfolding counted eachName among
   counted-last f h e = rw (parts-none l at 59 f, le-leb (n + 1) 32 (omega arith), e)
 
-  pub counted-wrong : firstFrom l at 59 ≡ Nothing → isName (drop at l) ≡ false → counted n (parts 59 (drop at l)) ≡ Faulty
+  pub counted-wrong : firstFrom l at 59 ≡ Nothing → isName (drop at l) ≡ false → counted n (fields (drop at l)) ≡ Faulty
   unfolding counted eachName
   counted-wrong f e = rw (parts-none l at 59 f, e, and-no)
 
   module _ (e : ℕ) (f : firstFrom l at 59 ≡ At e) where
-    pub counted-no-name : isName (take (e - at) (drop at l)) ≡ false → counted n (parts 59 (drop at l)) ≡ Faulty
+    pub counted-no-name : isName (take (e - at) (drop at l)) ≡ false → counted n (fields (drop at l)) ≡ Faulty
     unfolding counted eachName
     counted-no-name h = rw (parts-at l at 59 e f, h, and-no)
 
-    pub counted-twice : isName (take (e - at) (drop at l)) ≡ true → among (take (e - at) (drop at l)) (parts 59 (drop (e + 1) l)) ≡ true → counted n (parts 59 (drop at l)) ≡ Faulty
+    pub counted-twice : isName (take (e - at) (drop at l)) ≡ true → among (take (e - at) (drop at l)) (fields (drop (e + 1) l)) ≡ true → counted n (fields (drop at l)) ≡ Faulty
     unfolding counted eachName
     counted-twice h k = rw (parts-at l at 59 e f, h, k, and-no)
 
-    pub counted-go : isName (take (e - at) (drop at l)) ≡ true → among (take (e - at) (drop at l)) (parts 59 (drop (e + 1) l)) ≡ false → counted n (parts 59 (drop at l)) ≡ counted (n + 1) (parts 59 (drop (e + 1) l))
+    pub counted-go : isName (take (e - at) (drop at l)) ≡ true → among (take (e - at) (drop at l)) (fields (drop (e + 1) l)) ≡ false → counted n (fields (drop at l)) ≡ counted (n + 1) (fields (drop (e + 1) l))
     unfolding counted eachName
     counted-go h k =
-        let d : n + suc (length (parts 59 (drop (e + 1) l))) ≡ n + 1 + length (parts 59 (drop (e + 1) l)) = omega arith in
+        let d : n + suc (length (fields (drop (e + 1) l))) ≡ n + 1 + length (fields (drop (e + 1) l)) = omega arith in
         rw (parts-at l at 59 e f, h, k, d)

@@ -2,6 +2,7 @@
 use mathlib.Core.Path.{_≡_, refl, _∙_}
 use mathlib.Core.Bool.{true, false}
 use mathlib.Core.List.{List, [], _∷_}
+use mathlib.Core.Option.{Option, none, some, bind}
 use Prim.Native.Nat.{ℕ, zero, suc, _+_, _-_, _*_, _^_, _≤_, _<_}
 use native.Mathlib.Numerals.{add-one}
 use native.Mathlib.Omega.{arith}
@@ -16,10 +17,7 @@ use mir.Syntax.{w64}
 use mir.Val.{SFits, toZ, ofZ}
 use mir.ValLaws.{toZ-pos, toZ-ofZ}
 use Rattle.interval.proofs.Range.{and-both}
-use Rattle.text.specs.declared.internal.number.Magnitude.{Magnitude}
-use Rattle.text.specs.declared.internal.number.Magnitude.the-variants.{Digits, Other}
-use Rattle.text.specs.declared.internal.number.Number.the-variants.{Units, Malformed}
-use Rattle.text.specs.Number.{isDigit, digits, plain, magnitude, below, unsigned, negative, number}
+use Rattle.text.specs.Number.{isDigit, digits, plain, magnitude, below, number}
 
 -- ---- one digit
 module _ (b : ℕ) where
@@ -37,7 +35,7 @@ module _ (b : ℕ) where
 
 -- ---- digits, one turn of the loop: v stands for the i bytes before
 module _ (s : List ℕ) (i v : ℕ) where
-  pub digits-end : length s ≤ i → digits (drop i s) v ≡ Digits v
+  pub digits-end : length s ≤ i → digits (drop i s) v ≡ some v
   unfolding digits
   digits-end h = rw (drop-of-length-le s h)
 
@@ -45,7 +43,7 @@ module _ (s : List ℕ) (i v : ℕ) where
   unfolding digits
   digits-go h e = rw (add-one i, drop-cons s i 0 h, e)
 
-  pub digits-out : i < length s → isDigit (getD s i 0) ≡ false → digits (drop i s) v ≡ Other
+  pub digits-out : i < length s → isDigit (getD s i 0) ≡ false → digits (drop i s) v ≡ none
   unfolding digits
   digits-out h e = rw (drop-cons s i 0 h, e)
 
@@ -53,21 +51,21 @@ module _ (s : List ℕ) (i v : ℕ) where
 pub power-more : (i v d : ℕ) → v < 10 ^ i → d ≤ 9 → v * 10 + d < 10 ^ (i + 1)
 power-more i v d h k = rw (add-one i, pow-suc 10 i) (omega arith)
 
-pub power-ten : (i v : ℕ) → i ≤ 10 → v < 10 ^ i → v ≤ 9999999999
+pub power-ten : (i v : ℕ) → i ≤ 10 → v < 10 ^ i → v ≤ 9_999_999_999
 power-ten i v h k = omega (arith, pow-le-pow-right {n = 10} (omega arith) {i = i} {j = 10} h)
 
 -- ---- without a sign
 module _ (s : List ℕ) where
-  pub magnitude-none : length s < 1 → Other ≡ magnitude s
+  pub magnitude-none : length s < 1 → none ≡ magnitude s
   unfolding magnitude
   magnitude-none h = rw (lt-leb 1 (length s) h)
 
-  pub magnitude-long : 10 < length s → Other ≡ magnitude s
+  pub magnitude-long : 10 < length s → none ≡ magnitude s
   unfolding magnitude
   magnitude-long h = rw (le-leb 1 (length s) (omega arith), lt-leb (length s) 10 h)
 
   -- a leading zero, and something after it
-  pub magnitude-padded : 1 ≤ length s → length s ≤ 10 → getD s 0 0 ≡ 48 → (length s ≡ 1 → ⊥) → Other ≡ magnitude s
+  pub magnitude-padded : 1 ≤ length s → length s ≤ 10 → getD s 0 0 ≡ 48 → (length s ≡ 1 → ⊥) → none ≡ magnitude s
   unfolding magnitude plain
   magnitude-padded h k z n = rw (le-leb 1 (length s) h, le-leb (length s) 10 k, eq-eqb (getD s 0 0) 48 z, ne-eqb (length s) 1 n)
 
@@ -75,18 +73,18 @@ module _ (s : List ℕ) where
   unfolding magnitude plain
   magnitude-digits h k z = rw (le-leb 1 (length s) h, le-leb (length s) 10 k, ne-eqb (getD s 0 0) 48 z)
 
-pub magnitude-zero : (s : List ℕ) → getD s 0 0 ≡ 48 → length s ≡ 1 → Digits 0 ≡ magnitude s
+pub magnitude-zero : (s : List ℕ) → getD s 0 0 ≡ 48 → length s ≡ 1 → some 0 ≡ magnitude s
 unfolding magnitude plain digits isDigit
 magnitude-zero [] z e = absurd (omega arith)
 magnitude-zero (b ∷ []) z e = rw z
 magnitude-zero (b ∷ (a ∷ s)) z e = absurd (omega arith)
 
 -- ---- with a sign
-pub below-zero : (m : ℕ) → m ≡ 0 → Malformed ≡ below m
+pub below-zero : (m : ℕ) → m ≡ 0 → none ≡ below m
 unfolding below
 below-zero m e = rw e
 
-pub below-some : (m : ℕ) → (m ≡ 0 → ⊥) → Units (negℤ (pos m)) ≡ below m
+pub below-some : (m : ℕ) → (m ≡ 0 → ⊥) → some (negℤ (pos m)) ≡ below m
 unfolding below
 below-some zero n = absurd (n refl)
 below-some (suc m) n = refl
@@ -96,7 +94,7 @@ mag-turned zero = omega arith
 mag-turned (suc m) = omega arith
 
 -- ten digits fit an i64, and so does what is as far below nought
-module _ (m : ℕ) (h : m ≤ 9999999999) where
+module _ (m : ℕ) (h : m ≤ 9_999_999_999) where
   pub units-fit : SFits w64 (pos m)
   units-fit = record { sfits = omega arith }
 
@@ -112,18 +110,18 @@ module _ (m : ℕ) (h : m ≤ 9999999999) where
   pub turned-read : toZ w64 (ofZ w64 (pos 0 -ℤ toZ w64 m)) ≡ negℤ (pos m)
   turned-read = toZ-ofZ w64 (pos 0 -ℤ toZ w64 m) turned-fits ∙ turned
 
-pub number-none : (s : List ℕ) → length s < 1 → Malformed ≡ number s
+pub number-none : (s : List ℕ) → length s < 1 → none ≡ number s
 unfolding number
 number-none [] h = refl
 number-none (b ∷ s) h = absurd (omega arith)
 
 -- after the '-': a part of a slice that runs to its end is a `take` of what is left
-pub number-below : (s : List ℕ) (g : Magnitude) → 1 ≤ length s → getD s 0 0 ≡ 45 → magnitude (take (length s - 1) (drop 1 s)) ≡ g → negative g ≡ number s
+pub number-below : (s : List ℕ) (g : Option ℕ) → 1 ≤ length s → getD s 0 0 ≡ 45 → magnitude (take (length s - 1) (drop 1 s)) ≡ g → bind g below ≡ number s
 unfolding number
 number-below [] g h e f = absurd (omega arith)
 number-below (b ∷ s) g h e f = rw (eq-eqb b 45 e, ← f, take-all (length (b ∷ s) - 1) s (omega arith))
 
-pub number-plain : (s : List ℕ) (g : Magnitude) → 1 ≤ length s → (getD s 0 0 ≡ 45 → ⊥) → magnitude s ≡ g → unsigned g ≡ number s
+pub number-plain : (s : List ℕ) (g : Option ℕ) → 1 ≤ length s → (getD s 0 0 ≡ 45 → ⊥) → magnitude s ≡ g → bind g (λ m. some (pos m)) ≡ number s
 unfolding number
 number-plain [] g h n f = absurd (omega arith)
 number-plain (b ∷ s) g h n f = rw (ne-eqb b 45 n, f)

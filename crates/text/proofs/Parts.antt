@@ -11,8 +11,8 @@ use lib.ListN.{length, getD, take, drop, length-drop, drop-of-length-le}
 use lib.Seq.{drop-cons, drop-drop, take-all}
 use Rattle.text.specs.declared.internal.search.Found.{Found}
 use Rattle.text.specs.declared.internal.search.Found.the-variants.{At, Nothing}
-use Rattle.text.specs.Parts.{firstIn, firstFrom, longer, parts}
-use Rattle.text.specs.Code.{within}
+use Rattle.text.specs.Parts.{longer, parts}
+use Rattle.text.specs.Code.{firstIn, firstFrom, within}
 
 module _ (s : List ℕ) (b i : ℕ) where
   pub there : i < length s → getD s i 0 ≡ b → firstFrom s i b ≡ At i

@@ -4,67 +4,59 @@ use mathlib.Core.List.{List, [], _∷_, _++_}
 use Prim.Native.Nat.{ℕ, _-_}
 use lib.Dec.{leb}
 use lib.IntN.{ℤ}
-use lib.ListN.{length, drop}
-use Rattle.outcome.specs.declared.Outcome.{Outcome}
+use lib.ListN.{length, take, drop}
 use Rattle.outcome.specs.declared.Outcome.the-variants as outcome
+use Rattle.outcome.specs.Run.{Run, refused, done, andThen, Returned, returned, ended}
 use Rattle.inputs.specs.declared.Test.{Test}
-use Rattle.inputs.specs.declared.Test.the-variants.{Pass, Fail}
-use Rattle.inputs.specs.Tests.{System, lengths}
-use Rattle.text.specs.Parts.{parts, part, startOf}
-use Rattle.text.specs.Text.{Head, wrong, head, headOf, namesIn, Reading, fault, balance, reading}
+use Rattle.inputs.specs.Tests.{slice, lengths, tested}
+use Rattle.inputs.specs.System.{System}
+use Rattle.text.specs.Parts.{fields, part, startOf}
+use Rattle.text.specs.Text.{Head, head, reading}
 
--- what the call that reads a text does: it refuses, or fills the lent slices
-pub data Answer : Type 0 where
-  refused : Outcome → Answer
-  filled : System → Answer
+-- the slices that are lent to be written to
+pub record Lent : Type 0 where
+  pub matrix : List ℤ
+  pub right : List ℤ
 
-abbrev pub tested : Test → System → Answer
-tested Pass s = filled s
-tested (Fail o) s = refused o
+abbrev pub lent : (matrix right : List ℤ) → Lent
+lent m r = record { matrix = m; right = r }
 
--- 8, then 2: the lent slices have room for 32 vats, exactly
-abbrev pub answerTo : Reading → (matrix right : ℕ) → Answer
-answerTo (fault k) m r = refused (outcome.Text k)
-answerTo (balance l s) m r = tested (lengths (record { place = 1; held = m; wanted = 1024 } ∷ record { place = 2; held = r; wanted = 32 } ∷ [])) s
-
-unfoldable pub answer : List ℕ → (matrix right : ℕ) → Answer
-answer text m r = answerTo (reading text) m r
-
-abbrev pub outcomeOf : Answer → Outcome
-outcomeOf (refused o) = o
-outcomeOf (filled s) = outcome.Done
-
--- n, which is 0 with a refusal
-abbrev pub sizeOf : Answer → ℕ
-sizeOf (refused o) = 0
-sizeOf (filled s) = s .size
+-- test 2: they have room for 32 vats, exactly
+abbrev pub room : Lent → Test
+room s = lengths (slice 1 (length (s .matrix)) 2_048 ∷ slice 2 (length (s .right)) 64 ∷ [])
 
 -- a slice with these numbers at its beginning; what lies past them stays as lent
 abbrev pub over : List ℤ → List ℤ → List ℤ
 over zs lent = zs ++ drop (length zs) lent
 
-abbrev pub matrixAfter : Answer → List ℤ → List ℤ
-matrixAfter (refused o) lent = lent
-matrixAfter (filled s) lent = over (s .matrix) lent
+-- n is the count
+abbrev pub filled : Lent → System → Returned Lent
+filled s b = returned outcome.Done (b .size) (lent (over (b .matrix) (s .matrix)) (over (b .right) (s .right)))
 
-abbrev pub rightAfter : Answer → List ℤ → List ℤ
-rightAfter (refused o) lent = lent
-rightAfter (filled s) lent = over (s .right) lent
+-- 'Tests run in the sequence 8, 1, 2, 4, 3, then the calculation': here 8, then 2
+unfoldable pub read : List ℕ → Lent → Returned Lent
+read text s = ended (filled s) s (andThen (reading text) (λ c. tested (room s) (done (c .balance))))
 
 -- ---- 'A vat's name is handed back as the very part of the text where it was read'
 pub record Span : Type 0 where
   pub start : ℕ
   pub size : ℕ
 
+abbrev pub bytesOf : List ℕ → Span → List ℕ
+bytesOf text p = take (p .size) (drop (p .start) text)
+
 -- 'an empty part of the text': it starts at the text's beginning
 abbrev pub nowhere : Span
 nowhere = record { start = 0; size = 0 }
 
--- 'if the text is too long, line 1 is faulty or the vat number is outside 1 to n'; line 1 begins where the text begins
-abbrev pub nameUnder : Head → (component : ℕ) → Span
-nameUnder (wrong k) v = nowhere
-nameUnder (head l ls) v =
-    cond (leb 1 v && leb v (namesIn l)) (record { start = startOf (parts 59 l) (v - 1); size = length (part (parts 59 l) (v - 1)) }) nowhere
+-- 'if .. the vat number is outside 1 to n', which are the fields of line 1; that line begins where the text begins
+abbrev pub fieldSpan : List (List ℕ) → (component : ℕ) → Span
+fieldSpan fs v = cond (leb 1 v && leb v (length fs)) (record { start = startOf fs (v - 1); size = length (part fs (v - 1)) }) nowhere
+
+-- 'if the text is too long, line 1 is faulty'
+abbrev pub nameUnder : Run Head → (component : ℕ) → Span
+nameUnder (refused o) v = nowhere
+nameUnder (done h) v = fieldSpan (fields (h .names)) v
 
 unfoldable pub nameSpan : List ℕ → (component : ℕ) → Span
-nameSpan text v = nameUnder (headOf text) v
+nameSpan text v = nameUnder (head text) v

@@ -2,16 +2,22 @@
 use mathlib.Core.Path.{_≡_}
 use mathlib.Core.Bool.{Bool, true, false, cond}
 use mathlib.Core.List.{List, [], _∷_}
+use mathlib.Core.Option.{Option, none, some, bind}
 use Prim.Native.Nat.{ℕ, _+_, _*_, _≤_, _<_}
+use lib.Dec.{eqb}
 use lib.IntN.{ℤ}
 use lib.ListN.{length, take, drop}
-use Rattle.inputs.specs.Tests.{System, system}
+use Rattle.outcome.specs.Run.{Run, done, Returned, ended}
+use Rattle.inputs.specs.Tests.{tested}
+use Rattle.inputs.specs.System.{System, system}
 use Rattle.text.specs.declared.internal.search.Found.{Found}
 use Rattle.text.specs.declared.internal.search.Found.the-variants.{At, Nothing}
 use Rattle.text.specs.declared.internal.names.Names.{Names}
 use Rattle.text.specs.declared.internal.names.Names.the-variants as names
 use Rattle.text.specs.declared.internal.number.Magnitude.{Magnitude}
 use Rattle.text.specs.declared.internal.number.Magnitude.the-variants as magnitude
+use Rattle.text.specs.declared.internal.number.Number.{Number}
+use Rattle.text.specs.declared.internal.number.Number.the-variants as number
 use Rattle.text.specs.declared.internal.values.Value.{Value}
 use Rattle.text.specs.declared.internal.values.Value.the-variants as value
 use Rattle.text.specs.declared.internal.lines.Heading.{Heading}
@@ -21,48 +27,68 @@ use Rattle.text.specs.declared.internal.lines.Rows.{Rows}
 use Rattle.text.specs.declared.internal.lines.Rows.the-variants as lines
 use Rattle.text.specs.declared.internal.lines.Reading.{Reading}
 use Rattle.text.specs.declared.internal.lines.Reading.the-variants as whole
-use Rattle.text.specs.Parts.{parts}
-use Rattle.text.specs.Number.{Read, unread, read}
+use Rattle.text.specs.Parts.{parts, fields}
 use Rattle.text.specs.Names.{areNames}
 use Rattle.text.specs.Text as text
-use Rattle.text.specs.Call.{Answer, answerTo}
+use Rattle.text.specs.Text.{Cellar, faulty}
+use Rattle.text.specs.Call.{Lent, room, filled}
+
+-- ---- a search: the first b in a list whose first byte has the place i
+unfoldable pub firstIn : List ℕ → (b i : ℕ) → Found
+firstIn [] b i = Nothing
+firstIn (x ∷ xs) b i = cond (eqb x b) (At i) (firstIn xs b (i + 1))
+
+-- the place of the first b in s, from a place on
+unfoldable pub firstFrom : List ℕ → (from b : ℕ) → Found
+firstFrom s from b = firstIn (drop from s) b from
 
 -- a place that was found lies in s, from `from` on
 abbrev pub within : List ℕ → (from : ℕ) → Found → Type 0
 within s from (At j) = (from ≤ j) × (j < length s)
 within s from Nothing = Unit
 
+-- ---- what the code's answers say was read
+abbrev pub magnitudeOf : Magnitude → Option ℕ
+magnitudeOf (magnitude.Digits m) = some m
+magnitudeOf magnitude.Other = none
+
 -- ten digits at most
 abbrev pub short : Magnitude → Type 0
-short (magnitude.Digits m) = m ≤ 9999999999
+short (magnitude.Digits m) = m ≤ 9_999_999_999
 short magnitude.Other = Unit
+
+abbrev pub numberOf : Number → Option ℤ
+numberOf (number.Units z) = some z
+numberOf number.Malformed = none
+
+abbrev pub pair : Option ℤ → Option ℤ → Option (List ℤ)
+pair a b = bind a (λ lo. bind b (λ hi. some (lo ∷ hi ∷ [])))
+
+abbrev pub valueOf : Value → Option (List ℤ)
+valueOf (value.Bounds v) = some (v .lo ∷ v .hi ∷ [])
+valueOf value.Other = none
+
+abbrev pub onlyIf : Bool → List ℤ → Option (List ℤ)
+onlyIf true zs = some zs
+onlyIf false zs = none
+
+abbrev pub rowsAre : Rows → List ℤ → Run (List ℤ)
+rowsAre lines.Whole zs = done zs
+rowsAre (lines.Faulty k) zs = faulty k
 
 -- ---- a line of names
 unfoldable pub namesOf : List ℕ → Names
-namesOf l = cond (areNames (parts 59 l)) (names.Count (text.namesIn l)) names.Faulty
+namesOf l = cond (areNames (fields l)) (names.Count (length (fields l))) names.Faulty
 
 -- 32 names at most, of 16 bytes at most, and the bytes between them
 abbrev pub Few : List ℕ → Names → Type 0
 Few l (names.Count n) = (1 ≤ n) × (n ≤ 32) × (length l ≤ 543)
 Few l names.Faulty = Unit
 
--- ---- the numbers read, at the beginning of a list
-abbrev pub readOf : Value → Read
-readOf (value.Bounds v) = read (v .lo ∷ v .hi ∷ [])
-readOf value.Other = unread
-
-abbrev pub onlyIf : Bool → List ℤ → Read
-onlyIf true zs = read zs
-onlyIf false zs = unread
-
-abbrev pub rowsAre : Rows → List ℤ → text.Rows
-rowsAre lines.Whole zs = text.rows zs
-rowsAre (lines.Faulty k) zs = text.faulty k
-
 -- ---- line 1 of a text
 pub record Headed (s : List ℕ) (h : Heading) : Type 0 where
-  pub is : text.headOf s ≡ text.head (take (h .stop) s) (parts 10 (drop (h .stop + 1) s))
-  pub counted : h .count ≡ text.namesIn (take (h .stop) s)
+  pub is : text.head s ≡ done (record { names = take (h .stop) s; rest = parts 10 (drop (h .stop + 1) s) })
+  pub counted : h .count ≡ length (fields (take (h .stop) s))
   pub some : 1 ≤ h .count
   pub few : h .count ≤ 32
   pub short : h .stop ≤ 543
@@ -70,19 +96,20 @@ pub record Headed (s : List ℕ) (h : Heading) : Type 0 where
 
 abbrev pub Heads : List ℕ → Head → Type 0
 Heads s (heading.Named h) = Headed s h
-Heads s (heading.Faulty k) = text.headOf s ≡ text.wrong k
+Heads s (heading.Faulty k) = text.head s ≡ faulty k
 
 -- ---- the whole text: the balance of which the numbers stand at the beginning of t
 abbrev pub systemOf : (n : ℕ) → List ℤ → System
 systemOf n t = system n (take (2 * (n * n)) t) (take (2 * n) (drop (2 * (n * n)) t))
 
-abbrev pub readingIs : List ℕ → Reading → List ℤ → text.Reading
-readingIs s (whole.Balance h) t = text.balance (take (h .stop) s) (systemOf (h .count) t)
-readingIs s (whole.Faulty k) t = text.fault k
+abbrev pub readingIs : List ℕ → Reading → List ℤ → Run Cellar
+readingIs s (whole.Balance h) t = done (record { names = take (h .stop) s; balance = systemOf (h .count) t })
+readingIs s (whole.Faulty k) t = faulty k
 
 abbrev pub Fits : List ℕ → Reading → Type 0
 Fits s (whole.Balance h) = Headed s h
 Fits s (whole.Faulty k) = Unit
 
-unfoldable pub handed : (n : ℕ) → List ℤ → (matrix right : ℕ) → Answer
-handed n t m r = answerTo (text.balance [] (systemOf n t)) m r
+-- test 2, and then the numbers handed out
+unfoldable pub handed : (n : ℕ) → List ℤ → Lent → Returned Lent
+handed n t s = ended (filled s) s (tested (room s) (done (systemOf n t)))

@@ -1,14 +1,16 @@
 -- Document 01, The cellar text: 'n names separated by ';', each of 1 to 16 bytes from A–Z, a–z, 0–9 and '-', all different.'
 use mathlib.Core.Bool.{Bool, true, false, not, _&&_, _||_}
 use mathlib.Core.List.{List, [], _∷_}
+use Prim.Native.Char.{code}
 use Prim.Native.Nat.{ℕ}
 use lib.Dec.{eqb, leb}
 use lib.ListN.{length}
+use Rattle.text.specs.Bytes.{between}
 use Rattle.text.specs.Number.{isDigit}
 
 -- 'from A–Z, a–z, 0–9 and '-''
 unfoldable pub nameByte : ℕ → Bool
-nameByte b = leb 65 b && leb b 90 || (leb 97 b && leb b 122 || (isDigit b || eqb b 45))
+nameByte b = between "A" "Z" b || (between "a" "z" b || (isDigit b || eqb b (code "-")))
 
 unfoldable pub allBytes : List ℕ → Bool
 allBytes [] = true

@@ -1,20 +1,10 @@
--- Where a byte is found in a list of bytes, and the parts between such bytes.
+-- The parts of a list of bytes, between the bytes that separate them.
 use mathlib.Core.Bool.{cond}
 use mathlib.Core.List.{List, [], _∷_}
+use Prim.Native.Char.{code}
 use Prim.Native.Nat.{ℕ, zero, suc, _+_}
 use lib.Dec.{eqb}
-use lib.ListN.{length, drop}
-use Rattle.text.specs.declared.internal.search.Found.{Found}
-use Rattle.text.specs.declared.internal.search.Found.the-variants.{At, Nothing}
-
--- the first b in a list whose first byte has the place i
-unfoldable pub firstIn : List ℕ → (b i : ℕ) → Found
-firstIn [] b i = Nothing
-firstIn (x ∷ xs) b i = cond (eqb x b) (At i) (firstIn xs b (i + 1))
-
--- the place of the first b in s, from a place on
-unfoldable pub firstFrom : List ℕ → (from b : ℕ) → Found
-firstFrom s from b = firstIn (drop from s) b from
+use lib.ListN.{length}
 
 -- a byte more at the beginning of the first part
 unfoldable pub longer : ℕ → List (List ℕ) → List (List ℕ)
@@ -25,6 +15,10 @@ longer x (p ∷ ps) = (x ∷ p) ∷ ps
 unfoldable pub parts : (b : ℕ) → List ℕ → List (List ℕ)
 parts b [] = [] ∷ []
 parts b (x ∷ xs) = cond (eqb x b) ([] ∷ parts b xs) (longer x (parts b xs))
+
+-- 'separated by ';''
+abbrev pub fields : List ℕ → List (List ℕ)
+fields line = parts (code ";") line
 
 -- the part with the number k, from 0, and the place at which it starts: each part before it is followed by one byte b
 unfoldable pub part : List (List ℕ) → (k : ℕ) → List ℕ

@@ -6,13 +6,15 @@ use crate::internal::lines::Head;
 use crate::internal::lines::Reading;
 use crate::internal::lines::read_head;
 use crate::internal::lines::read_text;
+use inputs::Test;
 use inputs::internal::copy::fill;
+use inputs::internal::lengths;
 use outcome::Outcome;
 ghost use mathlib.Core.Path.{_≡_};
 ghost use Prim.Native.Nat.{_+_, _≤_};
-ghost use lib.ListN.{length, take, drop};
-ghost use Rattle.outcome.specs.Table.{paper};
-ghost use Rattle.text.specs.Call.{answer, outcomeOf, sizeOf, matrixAfter, rightAfter, nameSpan};
+ghost use lib.ListN.{length};
+ghost use Rattle.outcome.specs.Run.{returned};
+ghost use Rattle.text.specs.Call.{lent, read, bytesOf, nameSpan};
 ghost use Rattle.text.specs.Code.{handed};
 
 // What reading a text returns: its outcome, and the number of vats, which is 0 with a refusal.
@@ -24,39 +26,28 @@ pub struct Numbers {
 // Hands out the numbers at the beginning of t: those of B to matrix, those of b to right.
 fn hand_out(n: usize, t: &[i64], matrix: &mut [i64], right: &mut [i64]) -> Numbers
     requires { ⌜ (n ≤ 32) × (length (now t) ≡ 2112) ⌝ }
-    ensures outcome { λ r. ⌜ paper (r .outcome) ≡ paper (outcomeOf (handed n (now (t .entry)) (length (now (matrix .entry))) (length (now (right .entry))))) ⌝ }
-    ensures sized { λ r. ⌜ r .size ≡ sizeOf (handed n (now (t .entry)) (length (now (matrix .entry))) (length (now (right .entry)))) ⌝ }
-    ensures matrix { λ r. ⌜ now (matrix .exit) ≡ matrixAfter (handed n (now (t .entry)) (length (now (matrix .entry))) (length (now (right .entry)))) (now (matrix .entry)) ⌝ }
-    ensures right { λ r. ⌜ now (right .exit) ≡ rightAfter (handed n (now (t .entry)) (length (now (matrix .entry))) (length (now (right .entry)))) (now (right .entry)) ⌝ }
+    ensures { λ r. ⌜ returned (r .outcome) (r .size) (lent (now (matrix .exit)) (now (right .exit)))
+        ≡ handed n (now (t .entry)) (lent (now (matrix .entry)) (now (right .entry))) ⌝ }
 {
-    if matrix.len() != 2048 {
-        return Numbers {
-            outcome: Outcome::Length(1),
-            size: 0,
-        };
-    }
-    if right.len() != 64 {
-        return Numbers {
-            outcome: Outcome::Length(2),
-            size: 0,
-        };
-    }
-    let square = 2 * (n * n);
-    let stop = square + 2 * n;
-    fill(matrix, &t[..square], 0);
-    fill(right, &t[square..stop], 0);
-    Numbers {
-        outcome: Outcome::Done,
-        size: n,
+    match lengths(&[[1, matrix.len(), 2048], [2, right.len(), 64]]) {
+        Test::Pass => {
+            let square = 2 * (n * n);
+            let stop = square + 2 * n;
+            fill(matrix, &t[..square], 0);
+            fill(right, &t[square..stop], 0);
+            Numbers {
+                outcome: Outcome::Done,
+                size: n,
+            }
+        }
+        Test::Fail(outcome) => Numbers { outcome, size: 0 },
     }
 }
 
 // Reads a text: the numbers of B to the beginning of matrix, those of b to the beginning of right.
 pub fn read(text: &[u8], matrix: &mut [i64], right: &mut [i64]) -> Numbers
-    ensures outcome { λ r. ⌜ paper (r .outcome) ≡ paper (outcomeOf (answer (now (text .entry)) (length (now (matrix .entry))) (length (now (right .entry))))) ⌝ }
-    ensures sized { λ r. ⌜ r .size ≡ sizeOf (answer (now (text .entry)) (length (now (matrix .entry))) (length (now (right .entry)))) ⌝ }
-    ensures matrix { λ r. ⌜ now (matrix .exit) ≡ matrixAfter (answer (now (text .entry)) (length (now (matrix .entry))) (length (now (right .entry)))) (now (matrix .entry)) ⌝ }
-    ensures right { λ r. ⌜ now (right .exit) ≡ rightAfter (answer (now (text .entry)) (length (now (matrix .entry))) (length (now (right .entry)))) (now (right .entry)) ⌝ }
+    ensures { λ r. ⌜ returned (r .outcome) (r .size) (lent (now (matrix .exit)) (now (right .exit)))
+        ≡ read (now (text .entry)) (lent (now (matrix .entry)) (now (right .entry))) ⌝ }
 {
     let mut t = [0i64; 2112];
     match read_text(text, &mut t) {
@@ -75,7 +66,7 @@ pub fn read(text: &[u8], matrix: &mut [i64], right: &mut [i64]) -> Numbers
 pub fn name(text: &[u8], component: usize) -> &[u8]
     ensures start { λ r. ⌜ r .ptr ≡ ((text .entry) .ptr .0, nameSpan (now (text .entry)) component .start + (text .entry) .ptr .1) ⌝ }
     ensures size { λ r. ⌜ length (now r) ≡ nameSpan (now (text .entry)) component .size ⌝ }
-    ensures bytes { λ r. ⌜ now r ≡ take (nameSpan (now (text .entry)) component .size) (drop (nameSpan (now (text .entry)) component .start) (now (text .entry))) ⌝ }
+    ensures bytes { λ r. ⌜ now r ≡ bytesOf (now (text .entry)) (nameSpan (now (text .entry)) component) ⌝ }
 {
     match read_head(text) {
         Head::Named(h) => {

@@ -1,11 +1,14 @@
-use mathlib.Core.Path.{_≡_, sym}
+use mathlib.Core.Path.{_≡_, sym, _∙_}
 use Prim.Native.Nat.{_*_, _≤_}
 use native.Mathlib.Omega.{arith}
 use borrow.Author.Needs.{needs}
 use lib.ListN.{length, take}
 use lib.Seq.{length-take-le}
+use Rattle.inputs.specs.declared.Test.the-variants.{Pass}
+use Rattle.inputs.specs.Code.{listed}
 use Rattle.inputs.proofs.Tests.{square}
-use Rattle.text.proofs.Handed.{handed-matrix, handed-right, handed-out}
+use Rattle.text.specs.Call.{Lent, lent, room}
+use Rattle.text.proofs.Handed.{handed-not, handed-out, roomy}
 use Rattle.text.proofs.hand_out.Statement.{statement}
 use Rattle.text.proofs.hand_out.Tie as tie
 
@@ -17,32 +20,46 @@ few c = square _ (c .pre .0)
 all : (c : tie.Start) → let k = 2 * (c .args .n * c .args .n) in length (take k (c .args .t .now)) ≡ k
 all c = length-take-le _ _ (omega (arith, few c))
 
-returns : tie.Need-returns
-returns c = handed-matrix _ _ _ _ (c .if1 .taken)
+-- the slices as they are lent, and that they passed the test
+abbrev slices : tie.Start → Lent
+slices c = lent (c .args .matrix .now) (c .args .right .now)
 
-returns-2 : tie.Need-returns-2
-returns-2 c = handed-right _ _ _ _ (c .before .if1 .left) (c .if2 .taken)
+passed : (c : tie.After-enum-told) → room (slices (c .before .before .before .before)) ≡ Pass
+unfolding listed
+passed c = sym (c .before .before .lengths .ensures) ∙ c .enum-told .given .1
+
+slice-aggregate-lengths : tie.Need-slice-aggregate-lengths
+slice-aggregate-lengths c = search needs
+
+lengths-requires : tie.Need-lengths-requires
+lengths-requires c κs = search needs
+
+enum-told : tie.Need-enum-told
+enum-told c = search needs
 
 mul-square : tie.Need-mul-square
-mul-square c = omega (arith, few (c .before .before))
+mul-square c = omega (arith, few (c .before .before .before .before))
 
 mul-square-2 : tie.Need-mul-square-2
-mul-square-2 c = omega (arith, few (c .before .before))
+mul-square-2 c = omega (arith, few (c .before .before .before .before))
 
 mul-stop : tie.Need-mul-stop
 mul-stop c = search needs
 
 add-stop : tie.Need-add-stop
-add-stop c = omega (arith, few (c .before .before))
+add-stop c = omega (arith, few (c .before .before .before .before))
 
 slice-aggregate-fill : tie.Need-slice-aggregate-fill
-slice-aggregate-fill c = sym (all (c .before .before .before .before))
+slice-aggregate-fill c = sym (all (c .before .before .before .before .before .before))
 
 fill-requires : tie.Need-fill-requires
-fill-requires c κs = let s = c .before .before .before .before in omega (arith, few s, all s)
+fill-requires c κs =
+    let p = c .before .before in
+    let s = p .before .before .before .before in
+    omega (arith, few s, all s, roomy (slices s) (passed p))
 
 mul-fill : tie.Need-mul-fill
-mul-fill c = omega (arith, few (c .before .before .before .before .before .before .before))
+mul-fill c = omega (arith, few (c .before .before .before .before .before .before .before .before .before))
 
 sub-fill : tie.Need-sub-fill
 sub-fill c = search needs
@@ -51,10 +68,15 @@ part-fill-start : tie.Need-part-fill-start
 part-fill-start c = search needs
 
 part-fill-end : tie.Need-part-fill-end
-part-fill-end c = omega (arith, few (c .before .before .before .before .before .before .before))
+part-fill-end c = omega (arith, few (c .before .before .before .before .before .before .before .before .before))
 
 fill-requires-2 : tie.Need-fill-requires-2
-fill-requires-2 c κs = search needs
+fill-requires-2 c κs =
+    let p = c .before .before .before .before .before .before in
+    omega (arith, roomy (slices (p .before .before .before .before)) (passed p))
+
+enum-known-outcome : tie.Need-enum-known-outcome
+enum-known-outcome c = search needs
 
 same-length : tie.Need-same-length
 same-length c = search needs
@@ -62,18 +84,26 @@ same-length c = search needs
 same-length-2 : tie.Need-same-length-2
 same-length-2 c = search needs
 
-returns-3 : tie.Need-returns-3
-returns-3 c =
+returns : tie.Need-returns
+returns c =
     let g = c .before .before .before .before .before in
-    let f = g .before .before .before in
-    handed-out _ _ _ _ _ _ (f .before .if1 .left) (f .if2 .left) (g .fill .ensures) (c .before .fill2 .ensures)
+    let p = g .before .before .before in
+    handed-out _ _ (slices (p .before .before .before .before)) (passed p) (g .fill .ensures) (c .before .fill2 .ensures)
+
+returns-2 : tie.Need-returns-2
+unfolding listed
+returns-2 c =
+    let o = c .before in
+    let l = o .before .before in
+    handed-not _ _ (slices (l .before .before)) (sym (l .lengths .ensures) ∙ o .outcome .given .1)
 
 pub hand-out-spec : {M : Type 1} → statement M
 hand-out-spec =
     tie.close
     (tie.spec
-    returns
-    returns-2
+    slice-aggregate-lengths
+    lengths-requires
+    enum-told
     mul-square
     mul-square-2
     mul-stop
@@ -85,6 +115,8 @@ hand-out-spec =
     part-fill-start
     part-fill-end
     fill-requires-2
+    enum-known-outcome
     same-length
     same-length-2
-    returns-3)
+    returns
+    returns-2)

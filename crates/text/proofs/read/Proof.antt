@@ -1,7 +1,8 @@
 use mathlib.Core.Path.{subst}
 use borrow.Author.Needs.{needs}
+use Rattle.text.specs.Call.{lent}
 use Rattle.text.specs.Code.{Fits}
-use Rattle.text.proofs.Handed.{answer-filled, answer-faulty}
+use Rattle.text.proofs.Handed.{read-handed, read-faulty}
 use Rattle.text.proofs.read.Statement.{statement}
 use Rattle.text.proofs.read.Tie as tie
 
@@ -38,12 +39,12 @@ returns c =
     let a = o .before .before .before .before .before in
     let t = a .before .before .before in
     let g = t .before .before .before in
-    answer-filled _ _ (g .args .matrix .now) (g .args .right .now) (t .read-text .ensures .0) (o .hand-out .result .outcome) (a .h .given .1) (o .hand-out .ensures)
+    read-handed _ _ (lent (g .args .matrix .now) (g .args .right .now)) (t .read-text .ensures .0) (a .h .given .1) (o .hand-out .ensures)
 
 returns-2 : tie.Need-returns-2
 returns-2 c =
     let a = c .before in
-    answer-faulty _ _ _ _ (a .before .before .before .read-text .ensures .0) (a .line .given .1)
+    read-faulty _ _ _ (a .before .before .before .read-text .ensures .0) (a .line .given .1)
 
 pub read-spec : {M : Type 1} → statement M
 read-spec =

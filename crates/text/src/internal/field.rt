@@ -3,13 +3,13 @@ use crate::internal::search::search;
 ghost use mathlib.Core.Path.{_≡_};
 ghost use Prim.Native.Nat.{_+_, _≤_, _<_};
 ghost use lib.ListN.{length, drop};
-ghost use Rattle.text.specs.Parts.{parts, part, startOf};
+ghost use Rattle.text.specs.Parts.{fields, part, startOf};
 
 // Where the part with the number k, from 0, starts in a line.
 pub fn start_of(line: &[u8], k: usize) -> usize
-    requires { ⌜ k < length (parts 59 (now line)) ⌝ }
-    ensures { λ r. ⌜ (r ≡ startOf (parts 59 (now (line .entry))) k) × (r ≤ length (now (line .entry))) ⌝ }
-    ensures { λ r. ⌜ part (parts 59 (drop r (now (line .entry)))) 0 ≡ part (parts 59 (now (line .entry))) k ⌝ }
+    requires { ⌜ k < length (fields (now line)) ⌝ }
+    ensures { λ r. ⌜ (r ≡ startOf (fields (now (line .entry))) k) × (r ≤ length (now (line .entry))) ⌝ }
+    ensures { λ r. ⌜ part (fields (drop r (now (line .entry)))) 0 ≡ part (fields (now (line .entry))) k ⌝ }
 {
     let mut at = 0;
     for i in 0..k {
@@ -28,7 +28,7 @@ pub fn start_of(line: &[u8], k: usize) -> usize
 // Where the part that starts at a place stops.
 pub fn stop_from(line: &[u8], at: usize) -> usize
     requires { ⌜ at ≤ length (now line) ⌝ }
-    ensures { λ r. ⌜ (r ≡ at + length (part (parts 59 (drop at (now (line .entry)))) 0)) × (r ≤ length (now (line .entry))) ⌝ }
+    ensures { λ r. ⌜ (r ≡ at + length (part (fields (drop at (now (line .entry)))) 0)) × (r ≤ length (now (line .entry))) ⌝ }
 {
     match search(line, at, b';') {
         Found::At(e) => e,

@@ -37,7 +37,7 @@ pub enum Reading {
 pub fn read_head(text: &[u8]) -> Head
     ensures { λ r. ⌜ Heads (now (text .entry)) r ⌝ }
 {
-    if text.len() > 65536 {
+    if text.len() > 65_536 {
         return Head::Faulty(0);
     }
     match search(text, 0, 10) {
@@ -52,7 +52,8 @@ pub fn read_head(text: &[u8]) -> Head
 // The n + 1 lines of n values from a place on, after which nothing follows. Their numbers go to the beginning of t.
 fn read_rows(text: &[u8], from: usize, n: usize, t: &mut [i64]) -> Rows
     requires { ⌜ (from ≤ length (now text)) × ((1 ≤ n) × (n ≤ 32)) × (length (now t) ≡ 2112) ⌝ }
-    ensures { λ r. ⌜ rowsAre r (take (2 * ((n + 1) * n)) (now (t .exit))) ≡ rowsFrom n (n + 1) 2 (parts 10 (drop from (now (text .entry)))) ⌝ }
+    ensures { λ r. ⌜ rowsAre r (take (2 * ((n + 1) * n)) (now (t .exit)))
+        ≡ rowsFrom n (n + 1) 2 (parts 10 (drop from (now (text .entry)))) ⌝ }
 {
     let mut at = from;
     for i in 0..n + 1 {

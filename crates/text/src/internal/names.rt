@@ -1,7 +1,7 @@
 use crate::internal::search::Found;
 use crate::internal::search::search;
 ghost use mathlib.Core.Path.{_≡_};
-ghost use Rattle.text.specs.Parts.{parts};
+ghost use Rattle.text.specs.Parts.{fields};
 ghost use Rattle.text.specs.Names.{nameByte, isName, among};
 ghost use Rattle.text.specs.Code.{namesOf, Few};
 
@@ -43,7 +43,7 @@ fn is_name(s: &[u8]) -> bool
 
 // Whether a name is among the parts of what follows it.
 fn is_among(rest: &[u8], name: &[u8]) -> bool
-    ensures { λ r. ⌜ r ≡ among (now (name .entry)) (parts 59 (now (rest .entry))) ⌝ }
+    ensures { λ r. ⌜ r ≡ among (now (name .entry)) (fields (now (rest .entry))) ⌝ }
 {
     let mut at = 0;
     loop {

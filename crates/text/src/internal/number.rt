@@ -2,7 +2,7 @@ ghost use mathlib.Core.Path.{_≡_};
 ghost use Prim.Native.Nat.{_≤_};
 ghost use lib.ListN.{length};
 ghost use Rattle.text.specs.Number.{isDigit, digits, magnitude, number, below};
-ghost use Rattle.text.specs.Code.{short};
+ghost use Rattle.text.specs.Code.{magnitudeOf, short, numberOf};
 
 // What bytes are as digits: their number, or none.
 pub enum Magnitude {
@@ -28,7 +28,7 @@ fn is_digit(b: u8) -> bool
 // The number of at most ten digits.
 fn all_digits(s: &[u8]) -> Magnitude
     requires { ⌜ length (now s) ≤ 10 ⌝ }
-    ensures { λ r. ⌜ r ≡ digits (now (s .entry)) 0 ⌝ }
+    ensures { λ r. ⌜ magnitudeOf r ≡ digits (now (s .entry)) 0 ⌝ }
     ensures { λ r. ⌜ short r ⌝ }
 {
     let mut v: u64 = 0;
@@ -44,7 +44,7 @@ fn all_digits(s: &[u8]) -> Magnitude
 
 // 1 to 10 digits, no needless leading zero.
 fn unsigned(s: &[u8]) -> Magnitude
-    ensures { λ r. ⌜ r ≡ magnitude (now (s .entry)) ⌝ }
+    ensures { λ r. ⌜ magnitudeOf r ≡ magnitude (now (s .entry)) ⌝ }
     ensures { λ r. ⌜ short r ⌝ }
 {
     if s.len() < 1 {
@@ -64,7 +64,7 @@ fn unsigned(s: &[u8]) -> Magnitude
 
 // A number of the text: digits, with a '-' before them if it is below nought.
 pub fn number_of(s: &[u8]) -> Number
-    ensures { λ r. ⌜ r ≡ number (now (s .entry)) ⌝ }
+    ensures { λ r. ⌜ numberOf r ≡ number (now (s .entry)) ⌝ }
 {
     if s.len() < 1 {
         return Number::Malformed;
@@ -83,8 +83,8 @@ pub fn number_of(s: &[u8]) -> Number
 
 // Below nought: '-0' is none.
 fn negative(m: u64) -> Number
-    requires { ⌜ m ≤ 9999999999 ⌝ }
-    ensures { λ r. ⌜ r ≡ below m ⌝ }
+    requires { ⌜ m ≤ 9_999_999_999 ⌝ }
+    ensures { λ r. ⌜ numberOf r ≡ below m ⌝ }
 {
     if m == 0 {
         return Number::Malformed;

@@ -1,6 +1,5 @@
 ghost use mathlib.Core.Path.{_≡_};
-ghost use Rattle.text.specs.Parts.{firstFrom};
-ghost use Rattle.text.specs.Code.{within};
+ghost use Rattle.text.specs.Code.{firstFrom, within};
 
 pub enum Found {
     At(usize),

@@ -7,9 +7,10 @@ use interval::Interval;
 ghost use mathlib.Core.Path.{_≡_};
 ghost use Prim.Native.Nat.{_+_, _*_, _≤_};
 ghost use lib.ListN.{length, take};
-ghost use Rattle.text.specs.Parts.{parts};
-ghost use Rattle.text.specs.Number.{twoEnds, value, then, read, values};
-ghost use Rattle.text.specs.Code.{readOf, onlyIf};
+ghost use mathlib.Core.Option.{some};
+ghost use Rattle.text.specs.Parts.{fields};
+ghost use Rattle.text.specs.Number.{value, then, values};
+ghost use Rattle.text.specs.Code.{numberOf, pair, valueOf, onlyIf};
 
 // What a field is as a value of the text.
 pub enum Value {
@@ -18,7 +19,7 @@ pub enum Value {
 }
 
 fn both_ends(lower: Number, upper: Number) -> Value
-    ensures { λ r. ⌜ readOf r ≡ twoEnds lower upper ⌝ }
+    ensures { λ r. ⌜ valueOf r ≡ pair (numberOf lower) (numberOf upper) ⌝ }
 {
     match lower {
         Number::Units(lo) => match upper {
@@ -31,7 +32,7 @@ fn both_ends(lower: Number, upper: Number) -> Value
 
 // lower ':' upper
 fn value_of(field: &[u8]) -> Value
-    ensures { λ r. ⌜ readOf r ≡ value (now (field .entry)) ⌝ }
+    ensures { λ r. ⌜ valueOf r ≡ value (now (field .entry)) ⌝ }
 {
     match search(field, 0, b':') {
         Found::At(c) => {
@@ -46,7 +47,8 @@ fn value_of(field: &[u8]) -> Value
 // Reads a value to position p of t; false if the field is none.
 fn place_value(field: &[u8], t: &mut [i64], p: usize) -> bool
     requires { ⌜ 2 * (p + 1) ≤ length (now t) ⌝ }
-    ensures { λ r. ⌜ onlyIf r (take (2 * (p + 1)) (now (t .exit))) ≡ then (read (take (2 * p) (now (t .entry)))) (value (now (field .entry))) ⌝ }
+    ensures { λ r. ⌜ onlyIf r (take (2 * (p + 1)) (now (t .exit)))
+        ≡ then (some (take (2 * p) (now (t .entry)))) (value (now (field .entry))) ⌝ }
 {
     match value_of(field) {
         Value::Bounds(v) => {
@@ -60,7 +62,8 @@ fn place_value(field: &[u8], t: &mut [i64], p: usize) -> bool
 // Reads a line of n values to position p of t and on; false if the line is not one.
 pub fn read_values(line: &[u8], n: usize, t: &mut [i64], p: usize) -> bool
     requires { ⌜ (1 ≤ n) × (2 * (p + n) ≤ length (now t)) ⌝ }
-    ensures { λ r. ⌜ onlyIf r (take (2 * (p + n)) (now (t .exit))) ≡ then (read (take (2 * p) (now (t .entry)))) (values n (parts 59 (now (line .entry)))) ⌝ }
+    ensures { λ r. ⌜ onlyIf r (take (2 * (p + n)) (now (t .exit)))
+        ≡ then (some (take (2 * p) (now (t .entry)))) (values n (fields (now (line .entry)))) ⌝ }
 {
     let mut at = 0;
     for i in 0..n - 1 {

@@ -1,12 +1,14 @@
 use mathlib.Core.Path.{_≡_, sym, ap, _∙_}
+use mathlib.Core.List.{List}
 use Prim.Native.Nat.{_+_, _-_, _*_, _≤_}
 use native.Mathlib.Omega.{arith}
 use borrow.Author.Needs.{needs}
 use borrow.Author.Tests.{not-true, not-false}
+use lib.IntN.{ℤ}
 use lib.ListN.{length, take, drop}
+use Rattle.outcome.specs.Run.{Run, done}
 use Rattle.text.specs.Parts.{parts}
-use Rattle.text.specs.Number.{read}
-use Rattle.text.specs.Text.{lineThen, rowsFrom, faulty, rows}
+use Rattle.text.specs.Text.{before, rowsFrom, faulty}
 use Rattle.text.specs.Code.{onlyIf}
 use Rattle.text.proofs.Parts.{FirstAt, first-at}
 use Rattle.text.proofs.Lines.{rows-first, rows-go, rows-out, rows-missing, rows-end, rows-surplus, room, row-after}
@@ -16,7 +18,7 @@ use Rattle.text.proofs.internal.lines.read_rows.Tie as tie
 abbrev Inv-loop : tie.InvT-loop
 Inv-loop text from n t₀ at₀ i₀ i-end t at i =
     (at ≤ length text) × (i ≤ n + 1) × (length t ≡ 2112)
-    × (rowsFrom n (n + 1) 2 (parts 10 (drop from text)) ≡ lineThen 0 (read (take (2 * (i * n)) t)) (rowsFrom n (n + 1 - i) (i + 2) (parts 10 (drop at text))))
+    × (rowsFrom n (n + 1) 2 (parts 10 (drop from text)) ≡ before (take (2 * (i * n)) t) (rowsFrom n (n + 1 - i) (i + 2) (parts 10 (drop at text))))
 
 abbrev μ-loop : tie.MeasureT-loop
 μ-loop text from n t₀ at₀ i₀ i-end t at i = n + 1 - i
@@ -110,7 +112,7 @@ loop-again c =
       v .read-values .kept .1 .1 .0 ∙ l .loop .inv .2,
       l .loop .inv .3
           ∙ rows-go _ _ _ _ (take (2 * (l .loop .i * a .args .n)) (l .loop .t)) (found k .is) (omega arith) q
-          ∙ ap (λ m. lineThen 0 (read (take (2 * m) last)) (rowsFrom (a .args .n) (a .args .n + 1 - (l .loop .i + 1)) (l .loop .i + 1 + 2) (parts 10 (drop (k .before .e .given .0 .0 + 1) (a .args .text .now))))) (sym (row-after (a .args .n) (l .loop .i))),
+          ∙ ap (λ m. before (take (2 * m) last) (rowsFrom (a .args .n) (a .args .n + 1 - (l .loop .i + 1)) (l .loop .i + 1 + 2) (parts 10 (drop (k .before .e .given .0 .0 + 1) (a .args .text .now))))) (sym (row-after (a .args .n) (l .loop .i))),
     )
 
 add-t24 : tie.Need-add-t24 Inv-loop μ-loop
@@ -124,7 +126,7 @@ returns-3 c =
     let l = c .before .before in
     let a = l .before .before in
     let i : a .args .n + 3 ≡ l .loop .i + 2 = omega arith in
-    ap faulty i ∙ sym (l .loop .inv .3 ∙ rows-surplus (a .args .text .now) (l .loop .at) (a .args .n) (l .loop .i) (take (2 * (l .loop .i * a .args .n)) (l .loop .t)) (omega arith) (omega arith))
+    ap {B = Run (List ℤ)} faulty i ∙ sym (l .loop .inv .3 ∙ rows-surplus (a .args .text .now) (l .loop .at) (a .args .n) (l .loop .i) (take (2 * (l .loop .i * a .args .n)) (l .loop .t)) (omega arith) (omega arith))
 
 same-length-4 : tie.Need-same-length-4 Inv-loop μ-loop
 same-length-4 c = search needs
@@ -134,7 +136,7 @@ returns-4 c =
     let l = c .before .before in
     let a = l .before .before in
     let i : a .args .n + 1 ≡ l .loop .i = omega arith in
-    ap (λ m. rows (take (2 * (m * a .args .n)) (l .loop .t))) i ∙ sym (l .loop .inv .3 ∙ rows-end (a .args .text .now) (l .loop .at) (a .args .n) (l .loop .i) (take (2 * (l .loop .i * a .args .n)) (l .loop .t)) (omega arith) (omega arith))
+    ap {B = Run (List ℤ)} (λ m. done (take (2 * (m * a .args .n)) (l .loop .t))) i ∙ sym (l .loop .inv .3 ∙ rows-end (a .args .text .now) (l .loop .at) (a .args .n) (l .loop .i) (take (2 * (l .loop .i * a .args .n)) (l .loop .t)) (omega arith) (omega arith))
 
 pub read-rows-spec : {M : Type 1} → statement M
 read-rows-spec =

@@ -3,7 +3,7 @@ use Prim.Native.Nat.{_-_, _≤_}
 use native.Mathlib.Omega.{arith}
 use borrow.Author.Needs.{needs}
 use lib.ListN.{length, drop}
-use Rattle.text.specs.Parts.{parts}
+use Rattle.text.specs.Parts.{fields}
 use Rattle.text.specs.Names.{among}
 use Rattle.text.proofs.Parts.{FirstAt, first-at, to-end}
 use Rattle.text.proofs.Names.{same-is, among-last, among-here, among-go}
@@ -11,7 +11,7 @@ use Rattle.text.proofs.internal.names.is_among.Statement.{statement}
 use Rattle.text.proofs.internal.names.is_among.Tie as tie
 
 abbrev Inv-loop : tie.InvT-loop
-Inv-loop rest name at₀ at = (at ≤ length rest) × (among name (parts 59 (drop at rest)) ≡ among name (parts 59 rest))
+Inv-loop rest name at₀ at = (at ≤ length rest) × (among name (fields (drop at rest)) ≡ among name (fields rest))
 
 abbrev μ-loop : tie.MeasureT-loop
 μ-loop rest name at₀ at = length rest - at

@@ -6,9 +6,9 @@ use borrow.Author.Needs.{needs}
 use borrow.Author.Tests.{not-true, not-false}
 use lib.ListN.{length, take, drop}
 use Rattle.text.specs.declared.internal.search.Found.the-variants.{Nothing}
-use Rattle.text.specs.Parts.{firstFrom, parts}
+use Rattle.text.specs.Parts.{fields}
 use Rattle.text.specs.Names.{isName}
-use Rattle.text.specs.Code.{namesOf}
+use Rattle.text.specs.Code.{firstFrom, namesOf}
 use Rattle.text.proofs.Parts.{FirstAt, first-at, to-end}
 use Rattle.text.proofs.Names.{short-to, short-last, counted, counted-all, counted-many, counted-last, counted-wrong, counted-no-name, counted-twice, counted-go}
 use Rattle.text.proofs.internal.names.read_names.Statement.{statement}
@@ -16,7 +16,7 @@ use Rattle.text.proofs.internal.names.read_names.Tie as tie
 
 -- a name and the byte after it take 17 bytes at most
 abbrev Inv-loop : tie.InvT-loop
-Inv-loop line at₀ n₀ at n = (at ≤ length line) × (at ≤ 17 * n) × (counted n (parts 59 (drop at line)) ≡ namesOf line)
+Inv-loop line at₀ n₀ at n = (at ≤ length line) × (at ≤ 17 * n) × (counted n (fields (drop at line)) ≡ namesOf line)
 
 abbrev μ-loop : tie.MeasureT-loop
 μ-loop line at₀ n₀ at n = 32 - n

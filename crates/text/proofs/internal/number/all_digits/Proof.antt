@@ -21,7 +21,7 @@ told : (c : tie.Else1 Inv-loop μ-loop) → isDigit (getD (c .before .before .be
 told c = sym (c .before .is-digit .ensures) ∙ not-false _ (c .if1 .left)
 
 -- fewer than ten digits are behind it
-few : (c : tie.Else1 Inv-loop μ-loop) → c .before .before .before .before .loop .v ≤ 9999999999
+few : (c : tie.Else1 Inv-loop μ-loop) → c .before .before .before .before .loop .v ≤ 9_999_999_999
 few c = let l = c .before .before .before .before in power-ten (l .loop .i) _ (omega arith) (l .loop .inv .1)
 
 loop-holds : tie.Need-loop-holds Inv-loop μ-loop

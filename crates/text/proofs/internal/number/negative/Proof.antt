@@ -1,7 +1,7 @@
 use mathlib.Core.Path.{ap, _∙_}
+use mathlib.Core.Option.{Option, some}
 use borrow.Author.Needs.{needs}
 use lib.IntN.{ℤ}
-use Rattle.text.specs.declared.internal.number.Number.the-variants.{Units}
 use Rattle.text.proofs.Number.{below-zero, below-some, turned-fits, turned-read}
 use Rattle.text.proofs.internal.number.negative.Statement.{statement}
 use Rattle.text.proofs.internal.number.negative.Tie as tie
@@ -16,7 +16,7 @@ sub-t4 : tie.Need-sub-t4
 sub-t4 c = turned-fits _ (c .before .pre)
 
 returns-2 : tie.Need-returns-2
-returns-2 c = ap (λ (z : ℤ). Units z) (turned-read _ (c .before .pre)) ∙ below-some _ (c .if1 .left)
+returns-2 c = ap {B = Option ℤ} some (turned-read _ (c .before .pre)) ∙ below-some _ (c .if1 .left)
 
 pub negative-spec : {M : Type 1} → statement M
 negative-spec = tie.close (tie.spec returns cast-t3 sub-t4 returns-2)

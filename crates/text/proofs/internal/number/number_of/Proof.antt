@@ -1,16 +1,16 @@
 use mathlib.Core.Path.{ap, sym, subst, _∙_}
+use mathlib.Core.Option.{Option, some, bind}
 use Prim.Native.Nat.{_≤_}
 use native.Mathlib.Omega.{arith}
 use borrow.Author.Needs.{needs}
 use lib.IntN.{ℤ}
-use Rattle.text.specs.declared.internal.number.Number.the-variants.{Units}
-use Rattle.text.specs.Code.{short}
+use Rattle.text.specs.Code.{magnitudeOf, short}
 use Rattle.text.proofs.Number.{number-none, number-below, number-plain, units-fit, units-read}
 use Rattle.text.proofs.internal.number.number_of.Statement.{statement}
 use Rattle.text.proofs.internal.number.number_of.Tie as tie
 
 -- what bytes without a '-' have is short
-few : (c : tie.After-m2) → c .m2 .given .0 .0 ≤ 9999999999
+few : (c : tie.After-m2) → c .m2 .given .0 .0 ≤ 9_999_999_999
 few c = subst short (c .m2 .given .1) (c .before .before .unsigned2 .ensures .1)
 
 returns : tie.Need-returns
@@ -41,16 +41,18 @@ enum-told : tie.Need-enum-told
 enum-told c = search needs
 
 returns-2 : tie.Need-returns-2
+unfolding bind
 returns-2 c =
     let u = c .before .before .before .before in
     let i = u .before .before in
-    c .negative .ensures ∙ number-below _ _ (omega arith) (i .if2 .taken) (sym (u .unsigned .ensures .0) ∙ c .before .before .m .given .1)
+    c .negative .ensures ∙ number-below _ _ (omega arith) (i .if2 .taken) (sym (u .unsigned .ensures .0) ∙ ap magnitudeOf (c .before .before .m .given .1))
 
 returns-3 : tie.Need-returns-3
+unfolding bind
 returns-3 c =
     let u = c .before .before in
     let i = u .before .before in
-    number-below _ _ (omega arith) (i .if2 .taken) (sym (u .unsigned .ensures .0) ∙ c .enum-told .given .1)
+    number-below _ _ (omega arith) (i .if2 .taken) (sym (u .unsigned .ensures .0) ∙ ap magnitudeOf (c .enum-told .given .1))
 
 unsigned-requires-2 : tie.Need-unsigned-requires-2
 unsigned-requires-2 c κs = search needs
@@ -65,14 +67,16 @@ enum-told-2 : tie.Need-enum-told-2
 enum-told-2 c = search needs
 
 returns-4 : tie.Need-returns-4
+unfolding bind
 returns-4 c =
     let u = c .before .before .before in
-    ap (λ (z : ℤ). Units z) (units-read _ (few (c .before))) ∙ number-plain _ _ (omega arith) (u .before .if2 .left) (sym (u .unsigned2 .ensures .0) ∙ c .before .m2 .given .1)
+    ap {B = Option ℤ} some (units-read _ (few (c .before))) ∙ number-plain _ _ (omega arith) (u .before .if2 .left) (sym (u .unsigned2 .ensures .0) ∙ ap magnitudeOf (c .before .m2 .given .1))
 
 returns-5 : tie.Need-returns-5
+unfolding bind
 returns-5 c =
     let u = c .before .before in
-    number-plain _ _ (omega arith) (u .before .if2 .left) (sym (u .unsigned2 .ensures .0) ∙ c .enum-told2 .given .1)
+    number-plain _ _ (omega arith) (u .before .if2 .left) (sym (u .unsigned2 .ensures .0) ∙ ap magnitudeOf (c .enum-told2 .given .1))
 
 pub number-of-spec : {M : Type 1} → statement M
 number-of-spec =

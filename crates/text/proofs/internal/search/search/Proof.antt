@@ -3,7 +3,7 @@ use Prim.Native.Nat.{_-_, _≤_}
 use native.Mathlib.Omega.{arith}
 use borrow.Author.Needs.{needs}
 use lib.ListN.{length}
-use Rattle.text.specs.Parts.{firstFrom}
+use Rattle.text.specs.Code.{firstFrom}
 use Rattle.text.proofs.Parts.{there, not-there, past}
 use Rattle.text.proofs.internal.search.search.Statement.{statement}
 use Rattle.text.proofs.internal.search.search.Tie as tie

@@ -1,3 +1,4 @@
+use mathlib.Core.Option.{bind}
 use mir.Syntax.{w64}
 use mir.Val.{SFits}
 use borrow.Author.Needs.{needs}
@@ -26,9 +27,11 @@ returns c =
     ends-kept l u (v .lower .given .1) (w .upper .given .1)
 
 returns-2 : tie.Need-returns-2
+unfolding bind
 returns-2 c = search needs
 
 returns-3 : tie.Need-returns-3
+unfolding bind
 returns-3 c = search needs
 
 pub both-ends-spec : {M : Type 1} → statement M

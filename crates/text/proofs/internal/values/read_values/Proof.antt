@@ -1,5 +1,6 @@
 use mathlib.Core.Path.{_≡_, refl, sym, ap, _∙_}
 use mathlib.Core.List.{List}
+use mathlib.Core.Option.{some}
 use Prim.Native.Nat.{ℕ, _+_, _-_, _*_, _≤_, _<_}
 use native.Mathlib.Omega.{arith}
 use native.Mathlib.Nat.{add-zero, sub-zero}
@@ -7,8 +8,8 @@ use borrow.Author.Needs.{needs}
 use borrow.Author.Tests.{not-true, not-false}
 use lib.IntN.{ℤ}
 use lib.ListN.{length, take, drop}
-use Rattle.text.specs.Parts.{parts}
-use Rattle.text.specs.Number.{read, value, then, values}
+use Rattle.text.specs.Parts.{fields}
+use Rattle.text.specs.Number.{value, then, values}
 use Rattle.text.specs.Code.{onlyIf}
 use Rattle.text.proofs.Parts.{FirstAt, first-at}
 use Rattle.text.proofs.Values.{line-go, line-out, line-long, line-short, line-last}
@@ -18,7 +19,7 @@ use Rattle.text.proofs.internal.values.read_values.Tie as tie
 abbrev Inv-loop : tie.InvT-loop
 Inv-loop line n t₀ p at₀ i₀ i-end t at i =
     (at ≤ length line) × (i < n) × (length t ≡ length t₀)
-    × (then (read (take (2 * p) t₀)) (values n (parts 59 line)) ≡ then (read (take (2 * (p + i)) t)) (values (n - i) (parts 59 (drop at line))))
+    × (then (some (take (2 * p) t₀)) (values n (fields line)) ≡ then (some (take (2 * (p + i)) t)) (values (n - i) (fields (drop at line))))
 
 abbrev μ-loop : tie.MeasureT-loop
 μ-loop line n t₀ p at₀ i₀ i-end t at i = n - 1 - i
@@ -30,13 +31,13 @@ found k = first-at (k .before .before .before .search .ensures) (k .before .e .g
 sub-i-end : tie.Need-sub-i-end Inv-loop μ-loop
 sub-i-end c = omega arith
 
-start : (t : List ℤ) (p n : ℕ) (ps : List (List ℕ)) → then (read (take (2 * p) t)) (values n ps) ≡ then (read (take (2 * (p + 0)) t)) (values (n - 0) ps)
+start : (t : List ℤ) (p n : ℕ) (ps : List (List ℕ)) → then (some (take (2 * p) t)) (values n ps) ≡ then (some (take (2 * (p + 0)) t)) (values (n - 0) ps)
 start t p n ps = rw (add-zero p, sub-zero n)
 
 loop-holds : tie.Need-loop-holds Inv-loop μ-loop
 loop-holds c =
     let a = c .before in
-    (omega arith, omega arith, refl, start (a .args .t .now) (a .args .p) (a .args .n) (parts 59 (a .args .line .now)))
+    (omega arith, omega arith, refl, start (a .args .t .now) (a .args .p) (a .args .n) (fields (a .args .line .now)))
 
 search-requires : tie.Need-search-requires Inv-loop μ-loop
 search-requires c κs = search needs
@@ -68,7 +69,7 @@ returns c =
     let k = v .before .before .before in
     let l = k .before .before .before .before .before in
     let a = l .before .before in
-    line-out _ _ _ _ (read (take (2 * (a .args .p + l .loop .i)) (l .loop .t))) (found k .is) (omega arith)
+    line-out _ _ _ _ (some (take (2 * (a .args .p + l .loop .i)) (l .loop .t))) (found k .is) (omega arith)
     (ap (λ b. onlyIf b (take (2 * (a .args .p + l .loop .i + 1)) (v .place-value .last .1 .0))) (sym (not-true (v .place-value .result) (c .if1 .taken))) ∙ v .place-value .ensures)
     ∙ sym (l .loop .inv .3)
 
@@ -84,7 +85,7 @@ same-length-2 c = search needs
 returns-2 : tie.Need-returns-2 Inv-loop μ-loop
 returns-2 c =
     let l = c .before .before .before .before in
-    line-short _ _ _ _ (read (take (2 * (l .before .before .args .p + l .loop .i)) (l .loop .t))) (sym (c .before .before .search .ensures .0) ∙ c .enum-told .given .1) (omega arith) ∙ sym (l .loop .inv .3)
+    line-short _ _ _ _ (some (take (2 * (l .before .before .args .p + l .loop .i)) (l .loop .t))) (sym (c .before .before .search .ensures .0) ∙ c .enum-told .given .1) (omega arith) ∙ sym (l .loop .inv .3)
 
 add-i : tie.Need-add-i Inv-loop μ-loop
 add-i c = omega arith
@@ -105,8 +106,8 @@ loop-again c =
       omega arith,
       v .place-value .kept .1 .0 ∙ l .loop .inv .2,
       l .loop .inv .3
-          ∙ line-go _ _ _ _ (read (take (2 * (a .args .p + l .loop .i)) (l .loop .t))) (found k .is) (omega arith) q
-          ∙ ap (λ m. then (read (take (2 * m) last)) (values (a .args .n - (l .loop .i + 1)) (parts 59 (drop (k .before .e .given .0 .0 + 1) (a .args .line .now))))) j,
+          ∙ line-go _ _ _ _ (some (take (2 * (a .args .p + l .loop .i)) (l .loop .t))) (found k .is) (omega arith) q
+          ∙ ap (λ m. then (some (take (2 * m) last)) (values (a .args .n - (l .loop .i + 1)) (fields (drop (k .before .e .given .0 .0 + 1) (a .args .line .now))))) j,
     )
 
 search-requires-2 : tie.Need-search-requires-2 Inv-loop μ-loop
@@ -143,7 +144,7 @@ returns-3 : tie.Need-returns-3 Inv-loop μ-loop
 returns-3 c =
     let l = c .before .before .before .before in
     let a = l .before .before in
-    line-long _ _ _ _ (read (take (2 * (a .args .p + l .loop .i)) (l .loop .t))) (sym (c .before .before .search2 .ensures .0) ∙ c .enum-told2 .given .1) (omega arith) ∙ sym (l .loop .inv .3)
+    line-long _ _ _ _ (some (take (2 * (a .args .p + l .loop .i)) (l .loop .t))) (sym (c .before .before .search2 .ensures .0) ∙ c .enum-told2 .given .1) (omega arith) ∙ sym (l .loop .inv .3)
 
 same-length-4 : tie.Need-same-length-4 Inv-loop μ-loop
 same-length-4 c = search needs
@@ -158,8 +159,8 @@ returns-4 c =
     let i : a .args .n - 1 ≡ l .loop .i = omega arith in
     let j : a .args .p + a .args .n ≡ a .args .p + (a .args .n - 1) + 1 = omega arith in
     ap (λ m. onlyIf (v .place-value2 .result) (take (2 * m) last)) j
-    ∙ line-last _ _ _ _ (read (take (2 * (a .args .p + l .loop .i)) (l .loop .t))) (sym (n .before .before .search2 .ensures .0) ∙ n .enum-told3 .given .1) (omega arith)
-    (v .place-value2 .ensures ∙ ap (λ m. then (read (take (2 * (a .args .p + m)) (l .loop .t))) (value (take (length (a .args .line .now) - l .loop .at) (drop (l .loop .at) (a .args .line .now))))) i)
+    ∙ line-last _ _ _ _ (some (take (2 * (a .args .p + l .loop .i)) (l .loop .t))) (sym (n .before .before .search2 .ensures .0) ∙ n .enum-told3 .given .1) (omega arith)
+    (v .place-value2 .ensures ∙ ap (λ m. then (some (take (2 * (a .args .p + m)) (l .loop .t))) (value (take (length (a .args .line .now) - l .loop .at) (drop (l .loop .at) (a .args .line .now))))) i)
     ∙ sym (l .loop .inv .3)
 
 pub read-values-spec : {M : Type 1} → statement M
