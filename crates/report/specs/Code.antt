@@ -17,12 +17,6 @@ pub record Put (before : List ℕ) (at : ℕ) (s : List ℕ) (after : List ℕ) 
   pub bytes : after ≡ written before at s
   pub end : next ≡ at + length s
 
--- s was put at the beginning
-pub record Sheet (before s after : List ℕ) (count : ℕ) : Type 0 where
-  pub whole : count ≡ length s
-  pub bytes : after ≡ written before 0 s
-  pub inside : count ≤ length after
-
 -- the word that a flag of the code stands for
 abbrev pub ending : Bool → List ℕ
 ending isSettled = cond isSettled settled spent

@@ -2,12 +2,13 @@
 use mathlib.Core.Bool.{cond}
 use mathlib.Core.List.{List, [], _∷_, _++_}
 use Prim.Native.Nat.{ℕ, zero, suc, _+_, _/_, _%_}
+use Prim.Native.Char.{code}
 use lib.Dec.{ltb}
 use lib.IntN.{ℤ, pos, negsuc}
 
 -- '0' and the digit
 abbrev pub digit : ℕ → ℕ
-digit d = 48 + d
+digit d = code "0" + d
 
 -- the digits of n, the most significant first, where so many places hold them
 unfoldable pub digitsWithin : (places n : ℕ) → List ℕ
@@ -21,4 +22,4 @@ natural n = digitsWithin 20 n
 -- with '-' before a negative number
 unfoldable pub decimal : ℤ → List ℕ
 decimal (pos n) = natural n
-decimal (negsuc n) = 45 ∷ natural (suc n)
+decimal (negsuc n) = code "-" ∷ natural (suc n)

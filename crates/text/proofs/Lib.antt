@@ -7,3 +7,4 @@ pub mod Names
 pub mod Number
 pub mod Parts
 pub mod Values
+pub mod Refusal

@@ -25,9 +25,9 @@ lent m r = record { matrix = m; right = r }
 abbrev pub room : Lent → Test
 room s = lengths (slice 1 (length (s .matrix)) 2_048 ∷ slice 2 (length (s .right)) 64 ∷ [])
 
--- a slice with these numbers at its beginning; what lies past them stays as lent
-abbrev pub over : List ℤ → List ℤ → List ℤ
-over zs lent = zs ++ drop (length zs) lent
+-- a slice with these at its beginning; what lies past them stays as lent
+abbrev pub over : {A : Type 0} → List A → List A → List A
+over s lent = s ++ drop (length s) lent
 
 -- n is the count
 abbrev pub filled : Lent → System → Returned Lent

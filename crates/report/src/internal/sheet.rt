@@ -5,12 +5,11 @@ use crate::internal::decimal::put_natural;
 use inputs::internal::read;
 use interval::Interval;
 use outcome::Outcome;
-ghost use mathlib.Core.Path.{_≡_};
 ghost use Prim.Native.Nat.{_+_, _*_, _≤_};
 ghost use lib.ListN.{length};
 ghost use Rattle.outcome.specs.Table.{numberAndPlace};
 ghost use Rattle.report.specs.Sheet.{bound, bounds, counted, calculated, refusal};
-ghost use Rattle.report.specs.Code.{written, Put, ending};
+ghost use Rattle.report.specs.Code.{Put, ending};
 
 fn put_bound(out: &mut [u8], at: usize, v: Interval) -> usize
     requires { ⌜ at + 41 ≤ length (now out) ⌝ }
@@ -67,11 +66,11 @@ pub fn put_calculated(
     settled: bool,
     count: usize,
 ) -> usize
-    requires { ⌜ (length (now out) ≡ 2048) × (length (now names) ≤ 543) ⌝ }
+    requires { ⌜ (2048 ≤ length (now out)) × (length (now names) ≤ 543) ⌝ }
     requires { ⌜ (1 ≤ n) × (n ≤ 32) × (2 * n ≤ length (now x)) ⌝ }
-    ensures { λ r. ⌜ r ≡ length (calculated (now (names .entry)) n (now (x .entry)) (ending settled) count) ⌝ }
-    ensures { λ r. ⌜ now (out .exit) ≡ written (now (out .entry)) 0 (calculated (now (names .entry)) n (now (x .entry)) (ending settled) count) ⌝ }
-    ensures { λ r. ⌜ r ≤ length (now (out .exit)) ⌝ }
+    ensures { λ r. ⌜
+        Put (now (out .entry)) 0 (calculated (now (names .entry)) n (now (x .entry)) (ending settled) count) (now (out .exit)) r
+        ⌝ }
 {
     let end = put(out, 0, names);
     let second = put_byte(out, end, b'\n');
@@ -82,10 +81,8 @@ pub fn put_calculated(
 
 // Puts the line of a refusal at the beginning of out.
 pub fn put_refusal(out: &mut [u8], o: Outcome) -> usize
-    requires { ⌜ length (now out) ≡ 2048 ⌝ }
-    ensures { λ r. ⌜ r ≡ length (refusal (numberAndPlace o)) ⌝ }
-    ensures { λ r. ⌜ now (out .exit) ≡ written (now (out .entry)) 0 (refusal (numberAndPlace o)) ⌝ }
-    ensures { λ r. ⌜ r ≤ length (now (out .exit)) ⌝ }
+    requires { ⌜ 50 ≤ length (now out) ⌝ }
+    ensures { λ r. ⌜ Put (now (out .entry)) 0 (refusal (numberAndPlace o .number) (numberAndPlace o .place)) (now (out .exit)) r ⌝ }
 {
     let number = put(out, 0, b"refused ");
     let blank = put_natural(out, number, o.number());
