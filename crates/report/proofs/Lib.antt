@@ -2,5 +2,5 @@ pub mod Decimal
 pub mod Magnitude
 pub mod Put
 pub mod Sheet
-pub mod Run
+pub mod Call
 pub mod ReadBack

@@ -1,6 +1,6 @@
 use borrow.Author.Needs.{needs}
 use Rattle.report.specs.Sheet.{calculated}
-use Rattle.report.proofs.Put.{and-then, at-start}
+use Rattle.report.proofs.Put.{and-then}
 use Rattle.report.proofs.internal.sheet.put_calculated.Statement.{statement}
 use Rattle.report.proofs.internal.sheet.put_calculated.Tie as tie
 
@@ -30,7 +30,7 @@ returns c =
     let w = third .before .before .before .before in
     let second = w .before .before .before .before in
     let first = second .before .before .before .before in
-    at-start (and-then (first .put .ensures) (and-then (second .put-byte .ensures) (and-then (w .put-bounds .ensures .0) (and-then (third .put-byte2 .ensures) (last .put-counted .ensures)))))
+    and-then (first .put .ensures) (and-then (second .put-byte .ensures) (and-then (w .put-bounds .ensures .0) (and-then (third .put-byte2 .ensures) (last .put-counted .ensures))))
 
 pub put-calculated-spec : {M : Type 1} → statement M
 put-calculated-spec =

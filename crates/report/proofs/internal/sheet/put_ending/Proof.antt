@@ -1,5 +1,6 @@
 use native.Mathlib.Omega.{arith}
 use borrow.Author.Needs.{needs}
+use Rattle.text.specs.Bytes.{bytes}
 use Rattle.report.specs.Sheet.{settled, spent}
 use Rattle.report.proofs.internal.sheet.put_ending.Statement.{statement}
 use Rattle.report.proofs.internal.sheet.put_ending.Tie as tie
@@ -14,7 +15,7 @@ same-length : tie.Need-same-length
 same-length c = search needs
 
 returns : tie.Need-returns
-unfolding settled spent
+unfolding settled spent bytes
 returns c = let p = c .before .before in (rw (p .before .before .before .if1 .taken) (p .put .ensures), omega arith)
 
 slice-aggregate-put-2 : tie.Need-slice-aggregate-put-2
@@ -27,7 +28,7 @@ same-length-2 : tie.Need-same-length-2
 same-length-2 c = search needs
 
 returns-2 : tie.Need-returns-2
-unfolding settled spent
+unfolding settled spent bytes
 returns-2 c = let p = c .before .before in (rw (p .before .before .before .if1 .left) (p .put2 .ensures), omega arith)
 
 pub put-ending-spec : {M : Type 1} → statement M

@@ -1,8 +1,9 @@
 use native.Mathlib.Omega.{arith}
 use borrow.Author.Needs.{needs}
-use Rattle.report.specs.Sheet.{refused, refusal}
+use Rattle.text.specs.Bytes.{bytes}
+use Rattle.report.specs.Sheet.{refusal}
 use Rattle.report.proofs.Decimal.{natural-few}
-use Rattle.report.proofs.Put.{and-then, at-start}
+use Rattle.report.proofs.Put.{and-then}
 use Rattle.report.proofs.internal.sheet.put_refusal.Statement.{statement}
 use Rattle.report.proofs.internal.sheet.put_refusal.Tie as tie
 
@@ -34,7 +35,7 @@ same-length : tie.Need-same-length
 same-length c = search needs
 
 returns : tie.Need-returns
-unfolding refusal refused
+unfolding refusal bytes
 returns c =
     let last = c .before .before in
     let p = last .before .before .before .before in
@@ -43,7 +44,7 @@ returns c =
     let w = n .before .before .before .before .before in
     let number = rw (n .before .number .ensures) at (n .put-natural .ensures .0) in
     let place = rw (p .before .place .ensures) at (p .put-natural2 .ensures .0) in
-    at-start (and-then (w .put .ensures) (and-then number (and-then (b .put-byte .ensures) (and-then place (last .put-byte2 .ensures)))))
+    and-then (w .put .ensures) (and-then number (and-then (b .put-byte .ensures) (and-then place (last .put-byte2 .ensures))))
 
 pub put-refusal-spec : {M : Type 1} → statement M
 put-refusal-spec =
