@@ -28,8 +28,9 @@
  *   without 'const'. For a mapped file this means other processes too, and that
  *   nobody shortens it.
  *
- * No call allocates memory, waits, or keeps anything for the next call. The most
- * stack is taken by kifwaleb_report, about 35 kB.
+ * No call allocates memory, waits, or keeps anything for the next call. Give a
+ * thread that calls at least 128 kB of stack: kifwaleb_report, which takes the most,
+ * takes about 35 kB, and the rest is for the thread itself and the C library.
  */
 #ifndef KIFWALEB_H
 #define KIFWALEB_H
@@ -78,10 +79,10 @@ enum KifwalebNumber {
     /* The start box holds no solution. The place is the vat at which that was
      * found. */
     KIFWALEB_EMPTY = 7,
-    /* The text is not as described. No call returns it: on a sheet it says
-     * 'refused 8' and the first faulty line, or 0 if the text is too long. */
+    /* The text is not as described. Only kifwaleb_report returns it. The place is
+     * the first faulty line, or 0 if the text has more than 65,536 bytes. */
     KIFWALEB_TEXT = 8,
-    /* The last sweep allowed still changed the box; the box is written, and more
+    /* The last sweep allowed still changed the box; the result is written, and more
      * sweeps might tighten it. Place 0. */
     KIFWALEB_SPENT = 9
 };
@@ -167,6 +168,9 @@ KifwalebOutcome kifwaleb_eliminate_balance(size_t n,
  * To tighten a box that kifwaleb_eliminate wrote from A and f, lend B = I - A and
  * b = f: for an entry [lo, hi] of A, [1000000 - hi, 1000000 - lo] on the diagonal
  * and [-hi, -lo] elsewhere. A itself in B's place tightens something else.
+ * Divide each row of A and f before the elimination so that its diagonal is near
+ * one, and B's near 0: where it is well above one, or below 0, sweeps as a rule
+ * tighten nothing.
  * DONE if settled: the last whole sweep changed nothing. SPENT if the last sweep
  * allowed still changed a bound. Either writes the box over the start box, and the
  * count is of the whole sweeps done, the one that changed nothing included. Else
@@ -185,12 +189,19 @@ KifwalebOutcome kifwaleb_sweep(size_t n,
                                size_t allowed);
 
 /*
- * From a cellar text to the sheet that the program 'balance' prints. Takes the
+ * From a cellar text to its sheet: eliminates from the text's B and b, sweeps with
+ * 100 allowed, and writes the lines that the program 'balance' prints. Takes the
  * text, of any length and with any bytes, and out, of exactly 2,048 bytes.
- * DONE, and the sheet is written to the beginning of out: the count is of its
- * bytes, no byte 0 follows, and what lies past it stays as it was. A text that is
- * refused has a sheet too, 'refused' with number and place. LENGTH with place 3
- * if out has another length; then the count is 0.
+ * DONE if the sweeps settled, SPENT if all 100 were done and the last still changed
+ * a bound. Either writes the sheet to the beginning of out: the count is of its
+ * bytes, no byte 0 follows, and what lies past it stays as it was. Else the first of
+ *   TEXT with the faulty line;
+ *   LENGTH with place 3, if out has another length;
+ *   ENDS, the place counts through B and b;
+ *   CONTAINS_ZERO with the pivot, OUT_OF_RANGE with the row, or EMPTY with the vat,
+ *   whichever the calculation meets first.
+ * Then nothing is written and the count is 0. The line 'refused' with number and
+ * place, which the program prints, is left to the caller.
  */
 KifwalebOutcome kifwaleb_report(const uint8_t *text, size_t text_len,
                                 uint8_t *out, size_t out_len);
