@@ -34,7 +34,7 @@ fn main() {
     match read_input(&mut text) {
         Input::Bytes(n) => {
             let mut out = [0u8; 2048];
-            let w = report::report(&text[..n], &mut out);
+            let w = report::print(&text[..n], &mut out);
             let count = w.count;
             if !io::write_all(STDOUT_FILENO, &out[..count]) {
                 io::write_all(STDERR_FILENO, b"balance: the sheet cannot be written\n");

@@ -11,7 +11,7 @@ ghost use Rattle.io.specs.Counts.{Counts};
 
 fn is_call(letter: u8) -> bool {
     match letter {
-        b'R' | b'N' | b'P' => true,
+        b'R' | b'N' | b'S' | b'P' => true,
         _ => false,
     }
 }
@@ -103,24 +103,34 @@ fn name(file: &[u8], at: usize, text: &[u8]) -> usize {
     component.at
 }
 
-// A sheet: how the call ended, the count, and what the slice holds up to the last byte that is not as lent.
-fn sheet(text: &[u8], out: &mut [u8]) {
-    let r = report::report(text, out);
-    let o = r.outcome;
+// How a call with a sheet ended, the count, and what the slice holds up to the last byte that is not as lent.
+fn show_sheet(w: report::Written, out: &mut [u8]) {
+    let o = w.outcome;
     lines::outcome(o);
-    lines::natural(r.count as u64);
+    lines::natural(w.count as u64);
     lines::say(b" :");
     join(out);
     let end = printed(out);
     lines::say(&out[..end]);
 }
 
-// Reports into a slice of the length that the file gives.
-fn print(file: &[u8], at: usize, text: &[u8]) -> usize {
+// 'S' reports and 'P' prints.
+fn sheet(text: &[u8], letter: u8, out: &mut [u8]) {
+    if letter == b'S' {
+        let w = report::report(text, out);
+        show_sheet(w, out);
+        return;
+    }
+    let w = report::print(text, out);
+    show_sheet(w, out);
+}
+
+// Reports or prints into a slice of the length that the file gives.
+fn print(file: &[u8], at: usize, letter: u8, text: &[u8]) -> usize {
     let size = read_natural(file, at);
     let mut out = [BLANK; 4096];
     let o_size = room(size.value, 4096);
-    sheet(text, &mut out[..o_size]);
+    sheet(text, letter, &mut out[..o_size]);
     size.at
 }
 
@@ -131,7 +141,7 @@ fn call(file: &[u8], h: Head, text: &[u8]) -> usize {
     let at = match letter {
         b'R' => read(file, h.at, text),
         b'N' => name(file, h.at, text),
-        _ => print(file, h.at, text),
+        _ => print(file, h.at, letter, text),
     };
     lines::end();
     at

@@ -21,14 +21,14 @@ enum-known-n c = search needs
 array-share-prefix-text : tie.Need-array-share-prefix-text
 array-share-prefix-text c = counted (c .before) .0
 
-slice-aggregate-report : tie.Need-slice-aggregate-report
-slice-aggregate-report c = counted (c .before .before) .1
+slice-aggregate-print : tie.Need-slice-aggregate-print
+slice-aggregate-print c = counted (c .before .before) .1
 
-slice-aggregate-report-2 : tie.Need-slice-aggregate-report-2
-slice-aggregate-report-2 c = search needs
+slice-aggregate-print-2 : tie.Need-slice-aggregate-print-2
+slice-aggregate-print-2 c = search needs
 
-report-requires : tie.Need-report-requires
-report-requires c κs = search needs
+print-requires : tie.Need-print-requires
+print-requires c κs = search needs
 
 array-share-prefix-out : tie.Need-array-share-prefix-out
 array-share-prefix-out c = search needs
@@ -71,9 +71,9 @@ main-spec =
     read-input-requires
     enum-known-n
     array-share-prefix-text
-    slice-aggregate-report
-    slice-aggregate-report-2
-    report-requires
+    slice-aggregate-print
+    slice-aggregate-print-2
+    print-requires
     array-share-prefix-out
     slice-aggregate-write-all
     write-all-requires

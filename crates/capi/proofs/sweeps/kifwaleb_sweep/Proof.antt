@@ -14,7 +14,7 @@ same-length : tie.Need-same-length
 same-length c = search needs
 
 returns : tie.Need-returns
-returns c = call-left _ (c .counted .ensures) ∙ c .before .before .sweep .ensures
+returns c = call-left (c .counted .result) (c .before .before .sweep .result .outcome) _ (c .counted .ensures) ∙ c .before .before .sweep .ensures
 
 pub kifwaleb-sweep-spec : {M : Type 1} → statement M
 kifwaleb-sweep-spec = tie.close (tie.spec sweep-requires counted-requires same-length returns)

@@ -14,7 +14,7 @@ same-length : tie.Need-same-length
 same-length c = search needs
 
 returns : tie.Need-returns
-returns c = call-left _ (c .counted .ensures) ∙ c .before .before .eliminate .ensures
+returns c = call-left (c .counted .result) (c .before .before .eliminate .result) _ (c .counted .ensures) ∙ c .before .before .eliminate .ensures
 
 pub kifwaleb-eliminate-spec : {M : Type 1} → statement M
 kifwaleb-eliminate-spec =

@@ -14,7 +14,7 @@ same-length : tie.Need-same-length
 same-length c = search needs
 
 returns : tie.Need-returns
-returns c = call-left _ (c .counted .ensures) ∙ c .before .before .eliminate-balance .ensures
+returns c = call-left (c .counted .result) (c .before .before .eliminate-balance .result) _ (c .counted .ensures) ∙ c .before .before .eliminate-balance .ensures
 
 pub kifwaleb-eliminate-balance-spec : {M : Type 1} → statement M
 kifwaleb-eliminate-balance-spec =

@@ -1,5 +1,6 @@
 use borrow.Author.Needs.{needs}
 use mathlib.Core.Path.{_∙_}
+use Rattle.capi.proofs.Flat.{call-left}
 use Rattle.capi.proofs.texts.kifwaleb_report.Statement.{statement}
 use Rattle.capi.proofs.texts.kifwaleb_report.Tie as tie
 
@@ -13,9 +14,7 @@ same-length : tie.Need-same-length
 same-length c = search needs
 
 returns : tie.Need-returns
-returns c =
-    let e = c .before .before .before .report .ensures in
-    (c .counted .ensures .0 ∙ e .0, (c .counted .ensures .1 ∙ e .1 .0, e .1 .1 .0))
+returns c = call-left (c .counted .result) (c .before .before .before .report .result .outcome) _ (c .counted .ensures) ∙ c .before .before .before .report .ensures
 
 pub kifwaleb-report-spec : {M : Type 1} → statement M
 kifwaleb-report-spec = tie.close (tie.spec report-requires counted-requires same-length returns)
