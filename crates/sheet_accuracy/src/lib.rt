@@ -1,0 +1,2 @@
+// What a sheet is worth: a statement in specs/, its proof in proofs/.
+pub mod claims;
