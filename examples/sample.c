@@ -68,11 +68,11 @@ int main(void)
            outcome.number == KIFWALEB_DONE ? "settled" : "spent", outcome.count);
     print_bounds(bounds);
 
-    /* All of it at once, from a text to a sheet. A faulty text would be told on
-     * the sheet. The text is lent without its byte 0. */
+    /* All of it at once, from a text to a sheet, which says itself whether the
+     * sweeps settled. The text is lent without its byte 0. */
     outcome = kifwaleb_report((const uint8_t *)text, sizeof text - 1,
                               sheet, sizeof sheet);
-    if (outcome.number != KIFWALEB_DONE)
+    if (outcome.number != KIFWALEB_DONE && outcome.number != KIFWALEB_SPENT)
         return refused("report", outcome);
     puts("sheet");
     fwrite(sheet, 1, outcome.count, stdout);

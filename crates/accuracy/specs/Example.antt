@@ -1,5 +1,5 @@
--- Document 01, Tempting, and false: the rule is not about nothing. For A = [1, 1.6] and f = [1, 2] the weight 27/28 is a solution, for 4/3 and
--- 9/7; it lies in the box that elimination writes, [0.625, 2], and not in [1, 1.25], the box with A·x equal to f.
+-- Document 01, Tempting, and false: the rule is not about nothing. For A = [1, 1.6] and f = [1, 2] the weight 27/28 is a solution, for
+-- 4/3 and 9/7; it lies in the box that elimination writes, [0.625, 2], and not in [1, 1.25], the box with A·x equal to f.
 use mathlib.Core.List.{List, [], _∷_}
 use lib.IntN.{ℤ, pos}
 use lib.Signed.{ltZ-yes}

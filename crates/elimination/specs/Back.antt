@@ -1,4 +1,5 @@
--- Document 01, Elimination: 'Then for i from n down to 1: numerator = f(i) minus the sum of a(i,j)·x(j) over j > i; x(i) = numerator / a(i,i).'
+-- Document 01, Elimination: 'Then for i from n down to 1: numerator = f(i) minus the sum of a(i,j)·x(j) over j > i; x(i) =
+-- numerator / a(i,i).'
 use mathlib.Core.List.{List}
 use Prim.Native.Nat.{ℕ, zero, suc, _+_, _-_}
 use lib.IntN.{ℤ}

@@ -48,7 +48,9 @@ pub fn eliminate(n: usize, a: &[i64], f: &[i64], bounds: &mut [i64]) -> Outcome
 
 // Eliminates from B and b: bounds on the solutions of x = B·x + b, in the lent box.
 pub fn eliminate_balance(n: usize, b_matrix: &[i64], b: &[i64], bounds: &mut [i64]) -> Outcome
-    ensures { λ r. ⌜ returned r 0 (now (bounds .exit)) ≡ overB (system n (now («b_matrix» .entry)) (now (b .entry))) (now (bounds .entry)) ⌝ }
+    ensures { λ r. ⌜
+        returned r 0 (now (bounds .exit)) ≡ overB (system n (now («b_matrix» .entry)) (now (b .entry))) (now (bounds .entry))
+        ⌝ }
 {
     match tested(n, b_matrix, b, bounds.len()) {
         Test::Pass => solve_balance(n, b_matrix, b, bounds),

@@ -1,4 +1,5 @@
--- What the four steps on intervals mean for exact fractions, with any number of units in one whole. `Meaning`, at the end, is the whole claim.
+-- What the four steps on intervals mean for exact fractions, with any number of units in one whole. `Meaning`, at the end, is the
+-- whole claim.
 -- Document 01 speaks of real results; the exact fractions among them, which come as near to each as one likes, stand for them.
 use mathlib.Core.Path.{_≡_}
 use mathlib.Core.Bool.{false}
@@ -29,7 +30,8 @@ abbrev pub Narrowest : (Fraction → Type 0) → Interval → Type 0
 Narrowest P v = (w : Interval) → Holds P w → Contains w v
 
 -- v is the interval hull (document 000, definition 5.1), with ends in units, of the results of R on x and y. Where x or y has its ends
--- out of sequence nothing lies inside and every interval holds all results, so there is no narrowest: the second part asks for ends in sequence
+-- out of sequence nothing lies inside and every interval holds all results, so there is no narrowest: the second part asks for
+-- ends in sequence
 pub record Hull (R : Operation) (x y v : Interval) : Type 0 where
   pub holds : Holds (Result R x y) v
   pub narrowest : x .lo ≤ℤ x .hi → y .lo ≤ℤ y .hi → Narrowest (Result R x y) v

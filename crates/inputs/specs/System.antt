@@ -1,4 +1,5 @@
--- Document 01, Bounds in units: 'A matrix is lent as 2·n·n numbers, row by row, each interval lower then upper. A vector or box is 2·n numbers.'
+-- Document 01, Bounds in units: 'A matrix is lent as 2·n·n numbers, row by row, each interval lower then upper. A vector or box
+-- is 2·n numbers.'
 use mathlib.Core.List.{List, [], _∷_}
 use Prim.Native.Nat.{ℕ, _*_}
 use lib.IntN.{ℤ}
@@ -16,7 +17,10 @@ system n m r = record { size = n; matrix = m; right = r }
 
 -- '1 matrix, 2 right side, 3 box'
 abbrev pub slices : System → (boxLength : ℕ) → List Slice
-slices s l = slice 1 (length (s .matrix)) (2 * (s .size * s .size)) ∷ slice 2 (length (s .right)) (2 * s .size) ∷ slice 3 l (2 * s .size) ∷ []
+slices s l =
+    slice 1 (length (s .matrix)) (2 * (s .size * s .size))
+    ∷ slice 2 (length (s .right)) (2 * s .size)
+    ∷ slice 3 l (2 * s .size) ∷ []
 
 -- 'through matrix, right side', and what comes after them
 abbrev pub parts : System → List Part → List Part

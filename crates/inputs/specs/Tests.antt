@@ -1,4 +1,5 @@
--- Document 01, Outcomes: the tests 1, 2 and 3 that precede every calculation. 'Each test before the calculation returns the lowest place at which it fails.'
+-- Document 01, Outcomes: the tests 1, 2 and 3 that precede every calculation. 'Each test before the calculation returns the
+-- lowest place at which it fails.'
 use mathlib.Core.Bool.{Bool, cond, _&&_}
 use mathlib.Core.List.{List, [], _∷_}
 use Prim.Native.Nat.{ℕ, zero, suc, _+_}

@@ -74,8 +74,12 @@ productAt s x y = record { lo = floorDiv (leastProduct x y) s; hi = ceilDiv (gre
 unfoldable pub quotientAt : ℤ → Interval → Interval → Interval
 quotientAt s x y =
     record {
-      lo = least (floorDiv (x .lo *ℤ s) (y .lo)) (floorDiv (x .lo *ℤ s) (y .hi)) (floorDiv (x .hi *ℤ s) (y .lo)) (floorDiv (x .hi *ℤ s) (y .hi));
-      hi = greatest (ceilDiv (x .lo *ℤ s) (y .lo)) (ceilDiv (x .lo *ℤ s) (y .hi)) (ceilDiv (x .hi *ℤ s) (y .lo)) (ceilDiv (x .hi *ℤ s) (y .hi));
+      lo =
+          least (floorDiv (x .lo *ℤ s) (y .lo)) (floorDiv (x .lo *ℤ s) (y .hi))
+          (floorDiv (x .hi *ℤ s) (y .lo)) (floorDiv (x .hi *ℤ s) (y .hi));
+      hi =
+          greatest (ceilDiv (x .lo *ℤ s) (y .lo)) (ceilDiv (x .lo *ℤ s) (y .hi))
+          (ceilDiv (x .hi *ℤ s) (y .lo)) (ceilDiv (x .hi *ℤ s) (y .hi));
     }
 
 abbrev pub product : Interval → Interval → Interval

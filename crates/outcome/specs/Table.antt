@@ -1,7 +1,8 @@
 -- Document 01, Outcomes: the table, row by row.
 use Prim.Native.Nat.{ℕ}
 use Rattle.outcome.specs.declared.Outcome.{Outcome}
-use Rattle.outcome.specs.declared.Outcome.the-variants.{Done, Spent, Size, Length, Allowed, Ends, ContainsZero, OutOfRange, Empty, Text}
+use Rattle.outcome.specs.declared.Outcome.the-variants.{Done, Spent, Size, Length, Allowed, Ends}
+use Rattle.outcome.specs.declared.Outcome.the-variants.{ContainsZero, OutOfRange, Empty, Text}
 
 -- what is returned, and the place returned
 pub record Row : Type 0 where

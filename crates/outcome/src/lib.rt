@@ -9,7 +9,7 @@ pub enum Outcome {
     Spent,
     // n is 0 or above 32
     Size,
-    // a slice has the wrong length: 1 matrix, 2 right side, 3 box
+    // a slice has the wrong length: 1 matrix, 2 right side, 3 box or sheet
     Length(usize),
     // the sweeps allowed are 0 or above 10,000
     Allowed,

@@ -115,7 +115,8 @@ table =
     ∷ refuses (quotientAnswer (point (pos 2001)) (ends (pos 1) (pos 1_000_000))) 6
     ∷ refuses (quotientAnswer (point (pos 2000)) (ends (pos 0) (pos 1_000_000))) 5
     -- A = [1, 1.6], f = [1, 2]: [0.625, 2]
-    ∷ solves (overA (system 1 (ends (pos 1_000_000) (pos 1_600_000) ∷ []) (ends (pos 1_000_000) (pos 2_000_000) ∷ []))) 1 (ends (pos 625_000) (pos 2_000_000) ∷ [])
+    ∷ solves (overA (system 1 (ends (pos 1_000_000) (pos 1_600_000) ∷ []) (ends (pos 1_000_000) (pos 2_000_000) ∷ []))) 1
+    (ends (pos 625_000) (pos 2_000_000) ∷ [])
     -- One vat, B = [0.1, 0.2], b = 9: [10, 11.25]
     ∷ solves (overB (system 1 (ends (pos 100_000) (pos 200_000) ∷ []) (whole 9 ∷ []))) 1 (ends (pos 10_000_000) (pos 11_250_000) ∷ [])
     -- B(1,2) = B(2,1) = 0.5, other shares 0, b = (3, 0): 4 and 2

@@ -14,7 +14,8 @@ use Rattle.report.specs.Call.{solved, reached, printed}
 use Rattle.accuracy.specs.Solution.{Solution}
 use Rattle.accuracy.specs.Claim.{Bounded}
 
--- for every text of which the calculation reaches bounds: whatever box line 2 of what is printed reads as, every solution of the balance lies
+-- for every text of which the calculation reaches bounds: whatever box line 2 of what is printed reads as, every solution of the
+-- balance lies
 -- in it, and any figure inside the bounds of a vat is off from the solution's weight by at most their width
 abbrev pub SheetCovered : Type 0
 SheetCovered =

@@ -14,7 +14,9 @@ ghost use Rattle.elimination.specs.Code.{Working, Placed, Ran};
 // The entry (i, j) of I − B, if it is in the range.
 fn formed_entry(n: usize, i: usize, j: usize, t: &mut [i64]) -> bool
     requires { ⌜ Working n (now t) × (i < n) × (j < n) ⌝ }
-    ensures { λ r. ⌜ Placed (exactDifference (identity i j) (at (now (t .entry)) (cell n i j))) (cell n i j) (now (t .entry)) r (now (t .exit)) ⌝ }
+    ensures { λ r. ⌜
+        Placed (exactDifference (identity i j) (at (now (t .entry)) (cell n i j))) (cell n i j) (now (t .entry)) r (now (t .exit))
+        ⌝ }
 {
     let p = i * n + j;
     let b = read(t, p);

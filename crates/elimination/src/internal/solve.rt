@@ -36,7 +36,9 @@ fn finish(n: usize, t: &mut [i64], bounds: &mut [i64]) -> Outcome
 // The calculation over A and f.
 pub fn solve(n: usize, a: &[i64], f: &[i64], bounds: &mut [i64]) -> Outcome
     requires { ⌜ tests (system n (now a) (now f)) (length (now bounds)) ≡ Pass ⌝ }
-    ensures { λ r. ⌜ Ended (solved singly n (copied (system n (now (a .entry)) (now (f .entry))))) r (now (bounds .entry)) (now (bounds .exit)) ⌝ }
+    ensures { λ r. ⌜
+        Ended (solved singly n (copied (system n (now (a .entry)) (now (f .entry))))) r (now (bounds .entry)) (now (bounds .exit))
+        ⌝ }
 {
     let mut t = [0i64; 2112];
     copy_in(&mut t, a, f);
@@ -46,7 +48,10 @@ pub fn solve(n: usize, a: &[i64], f: &[i64], bounds: &mut [i64]) -> Outcome
 // The calculation over B and b.
 pub fn solve_balance(n: usize, b_matrix: &[i64], b: &[i64], bounds: &mut [i64]) -> Outcome
     requires { ⌜ tests (system n (now «b_matrix») (now b)) (length (now bounds)) ≡ Pass ⌝ }
-    ensures { λ r. ⌜ Ended (andThen (formedRows n n 0 (copied (system n (now («b_matrix» .entry)) (now (b .entry))))) (λ t. solved singly n t)) r (now (bounds .entry)) (now (bounds .exit)) ⌝ }
+    ensures { λ r. ⌜
+        Ended (andThen (formedRows n n 0 (copied (system n (now («b_matrix» .entry)) (now (b .entry))))) (λ t. solved singly n t))
+        r (now (bounds .entry)) (now (bounds .exit))
+        ⌝ }
 {
     let mut t = [0i64; 2112];
     copy_in(&mut t, b_matrix, b);

@@ -17,7 +17,10 @@ pub fn fill(t: &mut [i64], s: &[i64], at: usize)
 // Copies both lent slices to the beginning of t, one after the other.
 pub fn copy_in(t: &mut [i64], matrix: &[i64], right: &[i64])
     requires { ⌜ length (now matrix) + length (now right) ≤ length (now t) ⌝ }
-    ensures { λ _. ⌜ now (t .exit) ≡ now (matrix .entry) ++ (now (right .entry) ++ drop (length (now (matrix .entry)) + length (now (right .entry))) (now (t .entry))) ⌝ }
+    ensures { λ _. ⌜
+        now (t .exit) ≡
+        now (matrix .entry) ++ (now (right .entry) ++ drop (length (now (matrix .entry)) + length (now (right .entry))) (now (t .entry)))
+        ⌝ }
 {
     fill(t, matrix, 0);
     fill(t, right, matrix.len());
