@@ -6,13 +6,13 @@ pub const USAGE: &str =
 #[derive(Clone, Copy, Debug, PartialEq, Eq)]
 pub struct Plan {
     /// Random pairs for each single step.
-    pub pairs: usize,
+    pub pairs: u64,
     /// Random systems over both elimination calls.
-    pub systems: usize,
+    pub systems: u64,
     /// Random sweep calls.
-    pub sweeps: usize,
+    pub sweeps: u64,
     /// Random texts for the report call.
-    pub texts: usize,
+    pub texts: u64,
     /// Texts for the program, edge texts and random ones.
     pub programs: usize,
     pub seed: u64,

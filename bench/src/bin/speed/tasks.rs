@@ -1,11 +1,12 @@
 //! What is done by both sides.
 
 use crate::balances::{longest, mixed, shares, slow_dense, slow_noughts, with_wide_box};
-use kifwaleb_bench::archive;
+use kifwaleb_bench::archive::Archive;
 use kifwaleb_bench::case::{Case, Slices};
 use kifwaleb_bench::generator::long_named_text;
 use kifwaleb_bench::plain;
 use kifwaleb_bench::reference::{Call, Outcome, DONE, MOST_SWEEPS, SHEET_LENGTH, SPENT};
+use kifwaleb_bench::side::Side as _;
 use std::hint::black_box;
 
 #[derive(Clone, Copy)]
@@ -171,21 +172,21 @@ fn slices(case: &mut Case) -> Slices<'_> {
 impl Side {
     fn eliminate(self, n: usize, lent: Slices) -> Outcome {
         match self {
-            Side::Ours => archive::elimination::call(Call::EliminateBalance, n, lent),
+            Side::Ours => Archive.eliminate(Call::EliminateBalance, n, lent),
             Side::Theirs => plain::eliminate_balance(n, lent.matrix, lent.right_side, lent.bounds),
         }
     }
 
     fn sweep(self, n: usize, lent: Slices, allowed: usize) -> Outcome {
         match self {
-            Side::Ours => archive::sweep::call(n, lent, allowed),
+            Side::Ours => Archive.sweep(n, lent, allowed),
             Side::Theirs => plain::sweep(n, lent.matrix, lent.right_side, lent.bounds, allowed),
         }
     }
 
     fn report(self, text: &mut [u8], out: &mut [u8]) -> Outcome {
         match self {
-            Side::Ours => archive::report::call(text, out),
+            Side::Ours => Archive.report(text, out),
             Side::Theirs => plain::report(text, out),
         }
     }

@@ -64,12 +64,11 @@ fn settles_soon(balance: &System) -> bool {
 #[cfg(test)]
 mod tests {
     use super::*;
-    use crate::samples::systems::one_balance;
 
     #[test]
     fn numbers_at_both_limits_are_met() {
         let mut random = Random::new(3);
-        let lists = (0..20_000).map(|_| for_list(&mut random, &one_balance()));
+        let lists = (0..20_000).map(|_| for_list(&mut random, &System::noughts(1)));
         let numbers: Vec<_> = lists.flatten().collect();
         for wanted in [0, 1, 2, 9_999, 10_000, 10_001, usize::MAX] {
             assert!(numbers.contains(&wanted), "{wanted}");

@@ -2,7 +2,7 @@
 //! awkward numbers in which nearly every product is rounded.
 
 use super::lent;
-use crate::list::SweepList;
+use crate::sweep_list::SweepList;
 use crate::reference::{calculate, Call, Interval, System, LIMIT};
 
 const ONE: i64 = 1_000_000;

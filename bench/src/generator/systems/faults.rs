@@ -2,7 +2,7 @@
 
 use crate::case::Case;
 use crate::reference::{Interval, System, LIMIT, MOST_EQUATIONS};
-use crate::samples::systems::identity;
+use crate::samples::identity;
 use std::ops::RangeInclusive;
 
 /// Ends out of sequence or out of the range, in every way.
@@ -160,11 +160,11 @@ pub fn two_faulty_ends() -> impl Iterator<Item = Case> {
 #[cfg(test)]
 mod tests {
     use super::*;
-    use crate::comparison::systems::reference_call;
     use crate::reference::{Call, Outcome};
+    use crate::side::{Reference, Side};
 
     fn outcome(case: &Case) -> Outcome {
-        let answer = case.answer(|n, slices| reference_call(Call::Eliminate, n, slices));
+        let answer = case.answer(|n, slices| Reference.eliminate(Call::Eliminate, n, slices));
         answer.outcome
     }
 

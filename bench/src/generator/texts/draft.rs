@@ -54,8 +54,7 @@ pub fn value(lower: i64, upper: i64) -> Field {
 #[cfg(test)]
 mod tests {
     use super::*;
-    use crate::samples::sweeps::program_input;
-    use crate::samples::texts::INPUT;
+    use crate::samples::{program_input, INPUT};
 
     #[test]
     fn the_program_s_input_is_written() {

@@ -3,7 +3,7 @@
 use super::draft::Draft;
 use crate::case::Case;
 use crate::reference::{System, MOST_BYTES};
-use crate::samples::texts::INPUT;
+use crate::samples::INPUT;
 
 /// Lengths around the limit; cut to 16 bits, the far ones would pass for short.
 const LENGTHS: [usize; 8] = [
