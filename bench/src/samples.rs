@@ -92,7 +92,10 @@ mod tests {
     fn both_sides_give_every_written_answer() {
         assert_eq!(unmet(&Reference), [""; 0]);
         assert_eq!(unmet(&Archive), [""; 0]);
-        assert_eq!(lines(&entries(CASES), &Reference).len(), LINES.lines().count());
+        assert_eq!(
+            lines(&entries(CASES), &Reference).len(),
+            LINES.lines().count()
+        );
     }
 
     /// Answers that every call could be given.

@@ -74,7 +74,9 @@ impl Changed {
             return outcome;
         }
         let slices = [lent.matrix, lent.right_side, lent.bounds];
-        self.chosen(slices).into_iter().for_each(|number| *number += 1);
+        self.chosen(slices)
+            .into_iter()
+            .for_each(|number| *number += 1);
         self.outcome(outcome)
     }
 }
@@ -173,7 +175,12 @@ fn a_wrong_length_of_the_sheet_is_expected_as_the_call_answers_it() {
 /// A call gets the box that the one before left: 100, 51, 27 units.
 #[test]
 fn a_list_goes_on_with_its_box() {
-    let tally = compare(goals::of_sweep(), [list(&[1, 0, 1, 10_001, 5])].into_iter(), 9, &Reference);
+    let tally = compare(
+        goals::of_sweep(),
+        [list(&[1, 0, 1, 10_001, 5])].into_iter(),
+        9,
+        &Reference,
+    );
     let unreached = tally.unwrap().unreached();
     for reached in ["0, 9 or 7 on a box that the list has written", "9 for n 1"] {
         assert!(!unreached.iter().any(|goal| goal == reached), "{reached}");
@@ -204,7 +211,11 @@ fn a_difference_names_what_differs() {
     };
     let goals = goals::of_elimination(Call::Eliminate);
     let found = compare(goals, [elimination].into_iter(), 1, &side(CHANGES[7])).unwrap_err();
-    for part in ["number 0 of the box", "reference: 1000000", "archive:   1000001"] {
+    for part in [
+        "number 0 of the box",
+        "reference: 1000000",
+        "archive:   1000001",
+    ] {
         assert!(found.contains(part), "{found}");
     }
     assert!(!found.contains("wrote past"), "{found}");

@@ -9,8 +9,6 @@ mod outcome;
 mod sheet;
 mod steps;
 mod sweep;
-#[cfg(test)]
-mod sweep_facts;
 mod system;
 mod text;
 #[cfg(test)]

@@ -29,8 +29,12 @@ fn main() -> ExitCode {
 
 fn all_hold(plan: &Plan) -> bool {
     samples_hold()
-        && Operation::ALL.into_iter().all(|step| steps_hold(plan, step))
-        && Call::ALL.into_iter().all(|call| eliminations_hold(plan, call))
+        && Operation::ALL
+            .into_iter()
+            .all(|step| steps_hold(plan, step))
+        && Call::ALL
+            .into_iter()
+            .all(|call| eliminations_hold(plan, call))
         && sweeps_hold(plan)
         && reports_hold(plan)
         && program::holds(plan)
@@ -40,7 +44,9 @@ fn all_hold(plan: &Plan) -> bool {
 fn samples_hold() -> bool {
     println!("comparing the samples of the documents");
     let unmet = samples::unmet(&Archive);
-    unmet.iter().for_each(|line| println!("sample not met\n  {line}"));
+    unmet
+        .iter()
+        .for_each(|line| println!("sample not met\n  {line}"));
     unmet.is_empty()
 }
 
@@ -65,14 +71,36 @@ fn eliminations_hold(plan: &Plan, call: Call) -> bool {
 
 fn sweeps_hold(plan: &Plan) -> bool {
     let random = random_lists(plan.seed);
-    holds("sweep", "edge calls", goals::of_sweep(), edge_lists(), u64::MAX)
-        && holds("sweep", "random calls", goals::of_sweep(), random, plan.sweeps)
+    holds(
+        "sweep",
+        "edge calls",
+        goals::of_sweep(),
+        edge_lists(),
+        u64::MAX,
+    ) && holds(
+        "sweep",
+        "random calls",
+        goals::of_sweep(),
+        random,
+        plan.sweeps,
+    )
 }
 
 fn reports_hold(plan: &Plan) -> bool {
     let random = random_texts(plan.seed);
-    holds("report", "edge texts", goals::of_report(), edge_texts(), u64::MAX)
-        && holds("report", "random texts", goals::of_report(), random, plan.texts)
+    holds(
+        "report",
+        "edge texts",
+        goals::of_report(),
+        edge_texts(),
+        u64::MAX,
+    ) && holds(
+        "report",
+        "random texts",
+        goals::of_report(),
+        random,
+        plan.texts,
+    )
 }
 
 /// Compares one row and prints the difference, or what was reached. True if
@@ -95,7 +123,9 @@ fn holds<T: Trial>(
         Ok(tally) => {
             println!("{call}, {} {kind}; {}", tally.calls(), tally.report());
             let unreached = tally.unreached();
-            unreached.iter().for_each(|goal| println!("  never reached: {goal}"));
+            unreached
+                .iter()
+                .for_each(|goal| println!("  never reached: {goal}"));
             unreached.is_empty()
         }
     }

@@ -36,7 +36,11 @@ fn prints_its_sheet(program: &OsStr, text: &[u8]) -> bool {
         Err(error) => format!("  the program cannot be run: {error}\n"),
     };
     println!("difference in the program");
-    print!("{}{given}{}", shown("reference", &expected), shown("text", text));
+    print!(
+        "{}{given}{}",
+        shown("reference", &expected),
+        shown("text", text)
+    );
     false
 }
 

@@ -1,10 +1,10 @@
 //! The edge lists of sweep calls, always the same.
 
 use super::{faults, lent, slow, small};
-use crate::sweep_list::{Solution, SweepList};
-use crate::reference::{Interval, System, LIMIT};
 use crate::case_file::Entry;
+use crate::reference::{Interval, System, LIMIT};
 use crate::samples;
+use crate::sweep_list::{Solution, SweepList};
 
 const ONE: i64 = 1_000_000;
 

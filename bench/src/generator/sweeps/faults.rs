@@ -4,9 +4,9 @@ use super::allowances::REFUSED;
 use crate::case::Case;
 use crate::generator::systems::faults::{faulty_lengths, faulty_sizes};
 use crate::generator::systems::faults::{set_interval, FAULTY_ENDS};
-use crate::sweep_list::SweepList;
 use crate::reference::MOST_EQUATIONS;
 use crate::samples::identity;
+use crate::sweep_list::SweepList;
 
 /// Good numbers, and a start box that is changed by the first sweep.
 fn good(n: usize) -> Case {
@@ -77,8 +77,8 @@ pub fn two_ends() -> impl Iterator<Item = SweepList> {
 #[cfg(test)]
 mod tests {
     use super::*;
-    use crate::side::{Reference, Side};
     use crate::reference::Outcome;
+    use crate::side::{Reference, Side};
 
     fn outcome(list: &SweepList) -> Outcome {
         let allowed = list.allowed[0];

@@ -4,8 +4,8 @@ use super::{allowances, balances, lent, slow, solved, starts};
 use crate::generator::systems::sizes::size;
 use crate::generator::systems::spoiling::spoil;
 use crate::generator::Random;
-use crate::sweep_list::SweepList;
 use crate::reference::MOST_EQUATIONS;
+use crate::sweep_list::SweepList;
 
 /// Mostly few vats, as many as can be often enough.
 const SIZES: [u64; 8] = [15, 24, 20, 12, 15, 7, 5, 2];

@@ -3,8 +3,8 @@
 
 use super::lent;
 use crate::case::Case;
-use crate::sweep_list::SweepList;
 use crate::reference::{Interval, System};
+use crate::sweep_list::SweepList;
 
 const ONE: i64 = 1_000_000;
 

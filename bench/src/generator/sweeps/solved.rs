@@ -3,8 +3,8 @@
 use super::starts::{eliminated, spread};
 use super::{allowances, lent};
 use crate::generator::Random;
-use crate::sweep_list::{Solution, SweepList};
 use crate::reference::{Interval, System, LIMIT, SCALE};
+use crate::sweep_list::{Solution, SweepList};
 
 const ONE: i64 = 1_000_000;
 

@@ -4,8 +4,8 @@ use super::balance::balance_of;
 use super::spots::{spots, Spot};
 use super::{boxes, faults, small};
 use crate::case::Case;
-use crate::reference::{Call, System, MOST_EQUATIONS};
 use crate::case_file::Entry;
+use crate::reference::{Call, System, MOST_EQUATIONS};
 use crate::samples::{self, identity};
 use std::ops::RangeInclusive;
 

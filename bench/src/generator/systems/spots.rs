@@ -10,14 +10,10 @@ const ZERO: Interval = Interval::point(0);
 const SIDES: [(i64, i64); 4] = [(1, 0), (1, 1), (-1, 0), (-1, 1)];
 
 /// Contains 0 in every way, or misses it by a unit.
+#[rustfmt::skip]
 const PIVOTS: [Interval; 7] = [
-    ZERO,
-    Interval::new(0, 1),
-    Interval::new(-1, 0),
-    Interval::new(-1, 1),
-    Interval::new(-LIMIT + ONE, LIMIT),
-    Interval::point(1),
-    Interval::point(-1),
+    ZERO, Interval::new(0, 1), Interval::new(-1, 0), Interval::new(-1, 1),
+    Interval::new(-LIMIT + ONE, LIMIT), Interval::point(1), Interval::point(-1),
 ];
 
 #[derive(Clone, Debug)]
@@ -200,7 +196,11 @@ mod tests {
     fn assert_halved(spots: impl Iterator<Item = Spot>, phase: Phase, row: usize) {
         let [stopped, accepted, all] = planted(spots, Stop::OutOfRange { phase, row });
         assert!(all >= 4);
-        assert_eq!([2 * stopped, 2 * accepted], [all; 2], "{phase:?} in row {row}");
+        assert_eq!(
+            [2 * stopped, 2 * accepted],
+            [all; 2],
+            "{phase:?} in row {row}"
+        );
     }
 
     #[test]

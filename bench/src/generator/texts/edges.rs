@@ -173,13 +173,3 @@ fn faulty_lengths() -> impl Iterator<Item = TextCase> {
         })
     })
 }
-
-#[cfg(test)]
-mod tests {
-    use super::*;
-
-    #[test]
-    fn the_longest_text_is_as_long_as_a_valid_one_can_be() {
-        assert_eq!(longest().written().len(), 25_888);
-    }
-}
