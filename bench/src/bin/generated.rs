@@ -23,7 +23,7 @@ const MOST_CASE_BYTES: usize = 655_360;
 
 const SEED: u64 = 1;
 const FEW_VATS: usize = 4;
-const SHORT: usize = 300;
+const SHORT: usize = 80;
 const RANDOM: usize = 40_000;
 
 fn main() -> io::Result<()> {
@@ -149,7 +149,7 @@ fn sweeps() -> Vec<Entry> {
         let system = [Entry::System(list.lent)];
         system.into_iter().chain(calls).collect()
     };
-    let mut all = chosen(lists.map(entries).collect(), 2, 90_000);
+    let mut all = chosen(lists.map(entries).collect(), 2, 80_000);
     let large = edge_lists().filter(|list| has_most_vats(&list.lent));
     all.extend(large.take(1).flat_map(entries));
     all
@@ -161,11 +161,13 @@ fn texts() -> Vec<Entry> {
     };
     let random = random_texts_up_to(FEW_VATS, SEED).take(RANDOM / 2);
     let random = random.filter(|case| case.text.len() <= SHORT);
-    let short = some(0..=SHORT).step_by(2).chain(random);
-    let mut all = chosen(short.map(text_calls).collect(), 90, 105_000);
+    let short = some(0..=SHORT).chain(random).map(text_calls);
+    let (faulty, good): (Vec<_>, _) = short.partition(|calls| kind(calls).starts_with("refused 8"));
+    let mut all = chosen(faulty, 400, 88_000);
+    all.extend(chosen(good, 8, 20_000));
     // 32 and 33 vats without shares, and the greatest length that is judged.
     let great = some(4_300..=5_000).take(4);
-    let long = some(MOST_BYTES..=MOST_BYTES + 1).step_by(3).take(2);
+    let long = some(MOST_BYTES..=MOST_BYTES + 1).step_by(6).take(2);
     all.extend(great.chain(long).flat_map(text_calls));
     all
 }
