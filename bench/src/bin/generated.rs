@@ -175,10 +175,11 @@ fn texts() -> Vec<Entry> {
 fn text_calls(case: TextCase) -> Vec<Entry> {
     let [matrix, right_side] = READ_LENGTHS;
     let n = read_text(&case.text).map_or(1, |read| read.n);
+    let vat = [n, 0, n + 1, 1][case.text.len() % 4];
     vec![
         Entry::Text(case.text),
         Entry::Read(matrix, right_side),
-        Entry::Name(n),
+        Entry::Name(vat),
         Entry::Report(case.out.len().min(4_096)),
     ]
 }
