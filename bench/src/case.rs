@@ -77,33 +77,3 @@ impl Slices<'_> {
         }
     }
 }
-
-#[cfg(test)]
-mod tests {
-    use super::*;
-    use crate::reference::Interval;
-
-    fn small_case() -> Case {
-        let matrix = vec![Interval::new(1, 2)];
-        let system = System::new(1, matrix, vec![Interval::new(3, 4)]);
-        Case::new(&system)
-    }
-
-    #[test]
-    fn a_case_lends_what_the_system_holds() {
-        let case = small_case();
-        let seen = case.answer(|n, slices| {
-            assert_eq!(n, 1);
-            assert_eq!(
-                (&*slices.matrix, &*slices.right_side),
-                (&[1, 2][..], &[3, 4][..])
-            );
-            slices.bounds.fill(9);
-            Outcome::new(0, 7)
-        });
-        assert_eq!(seen.outcome, Outcome::new(0, 7));
-        assert_eq!(seen.bounds.inside(), [9, 9]);
-        assert!(seen.bounds.is_intact());
-        assert_eq!(case.bounds, [0, 0]);
-    }
-}

@@ -1,20 +1,16 @@
 //! The outside check: an independent implementation of document 01, the cases
 //! to try, and the comparison with the archive.
 
-#[cfg(feature = "archive")]
 pub mod archive;
 pub mod case;
+pub mod case_file;
 pub mod comparison;
 pub mod generator;
 pub mod guarded;
-pub mod list;
 pub mod plain;
 pub mod plan;
 pub mod reference;
 pub mod samples;
+pub mod side;
+pub mod sweep_list;
 pub mod text_case;
-#[cfg(feature = "archive")]
-pub mod wrapper;
-
-#[cfg(test)]
-mod mutants;

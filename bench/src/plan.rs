@@ -6,13 +6,13 @@ pub const USAGE: &str =
 #[derive(Clone, Copy, Debug, PartialEq, Eq)]
 pub struct Plan {
     /// Random pairs for each single step.
-    pub pairs: usize,
+    pub pairs: u64,
     /// Random systems over both elimination calls.
-    pub systems: usize,
+    pub systems: u64,
     /// Random sweep calls.
-    pub sweeps: usize,
+    pub sweeps: u64,
     /// Random texts for the report call.
-    pub texts: usize,
+    pub texts: u64,
     /// Texts for the program, edge texts and random ones.
     pub programs: usize,
     pub seed: u64,
@@ -50,38 +50,27 @@ impl Plan {
 mod tests {
     use super::*;
 
-    fn read(arguments: &[&str]) -> Option<Plan> {
-        Plan::read(arguments.iter().map(|argument| argument.to_string()))
+    fn read(arguments: &str) -> Option<Plan> {
+        Plan::read(arguments.split_whitespace().map(str::to_string))
     }
 
     #[test]
     fn arguments_come_in_any_sequence() {
-        let plan = Plan {
-            pairs: 2,
-            systems: 3,
-            sweeps: 5,
-            texts: 6,
-            programs: 7,
-            seed: 4,
-        };
-        let mut arguments = [
-            "pairs=2",
-            "systems=3",
-            "sweeps=5",
-            "texts=6",
-            "programs=7",
-            "seed=4",
-        ];
-        assert_eq!(read(&arguments), Some(plan));
-        arguments.reverse();
-        assert_eq!(read(&arguments), Some(plan));
-        assert_eq!(read(&[]), Some(Plan::DEFAULT));
+        let plan = read("pairs=2 systems=3 sweeps=5 texts=6 programs=7 seed=4");
+        assert_eq!(
+            read("seed=4 programs=7 texts=6 sweeps=5 systems=3 pairs=2"),
+            plan
+        );
+        let plan = plan.unwrap();
+        assert_eq!([plan.pairs, plan.systems, plan.sweeps], [2, 3, 5]);
+        assert_eq!([plan.texts, plan.programs as u64, plan.seed], [6, 7, 4]);
+        assert_eq!(read(""), Some(Plan::DEFAULT));
     }
 
     #[test]
     fn other_arguments_are_refused() {
         for argument in ["2", "pairs", "pairs=", "pairs=-1", "sweep=3"] {
-            assert_eq!(read(&[argument]), None, "{argument}");
+            assert_eq!(read(argument), None, "{argument}");
         }
     }
 }

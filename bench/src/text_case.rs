@@ -34,23 +34,3 @@ impl TextCase {
         TextAnswer { outcome, text, out }
     }
 }
-
-#[cfg(test)]
-mod tests {
-    use super::*;
-
-    #[test]
-    fn a_case_lends_its_text_and_its_sheet() {
-        let case = TextCase::new(b"ab".to_vec());
-        let seen = case.answer(|text, out| {
-            assert_eq!((&*text, out.len()), (&b"ab"[..], 2_048));
-            text[0] = b'x';
-            out[1] = b'y';
-            Outcome::new(0, 7)
-        });
-        assert_eq!(seen.outcome, Outcome::new(0, 7));
-        assert_eq!(seen.text.inside(), b"xb");
-        assert_eq!(seen.out.inside()[..3], [0xff, b'y', 0xff]);
-        assert_eq!(case, TextCase::new(b"ab".to_vec()));
-    }
-}

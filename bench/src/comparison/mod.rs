@@ -1,11 +1,43 @@
-//! Comparing answers with the reference, and counting what was reached.
+//! Comparing answers with the reference's, and counting what was reached.
 
-mod counts;
-pub mod events;
+pub mod goals;
 mod lent;
-pub mod steps;
-pub mod sweep_events;
-pub mod sweeps;
-pub mod systems;
-pub mod text_events;
-pub mod texts;
+mod steps;
+mod sweeps;
+mod systems;
+mod tally;
+#[cfg(test)]
+mod tests;
+mod texts;
+
+pub use steps::Pair;
+pub use systems::Elimination;
+pub use tally::{Goal, Tally};
+pub use texts::shown;
+
+use crate::side::Side;
+
+/// Something to try on a side.
+pub trait Trial {
+    /// Counts what the reference's answer reached. The text tells how the side's
+    /// answer differs.
+    fn compare(&self, side: &impl Side, tally: &mut Tally) -> Result<(), String>;
+}
+
+/// Runs through `trials` until the side differs from the reference, or so many
+/// calls were made.
+pub fn compare<T: Trial>(
+    goals: Vec<Goal>,
+    trials: impl Iterator<Item = T>,
+    calls: u64,
+    side: &impl Side,
+) -> Result<Tally, String> {
+    let mut tally = Tally::new(goals);
+    for trial in trials {
+        if tally.calls() >= calls {
+            break;
+        }
+        trial.compare(side, &mut tally)?;
+    }
+    Ok(tally)
+}

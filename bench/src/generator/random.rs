@@ -67,30 +67,3 @@ impl Random {
         }
     }
 }
-
-#[cfg(test)]
-mod tests {
-    use super::*;
-
-    #[test]
-    fn the_same_seed_gives_the_same_numbers() {
-        let (mut first, mut second) = (Random::new(7), Random::new(7));
-        assert!((0..100).all(|_| first.bits() == second.bits()));
-        assert_ne!(Random::new(7).bits(), Random::new(8).bits());
-    }
-
-    #[test]
-    fn magnitudes_have_every_number_of_digits() {
-        for limit in [1, 1_000, 2_000_000_000, i64::MAX] {
-            let mut random = Random::new(9);
-            let mut seen = [false; 64];
-            for _ in 0..10_000 {
-                let value = random.magnitude(limit);
-                assert!((0..=limit).contains(&value));
-                seen[(64 - value.leading_zeros()) as usize] = true;
-            }
-            let digits = (64 - limit.leading_zeros()) as usize;
-            assert!(seen[..=digits].iter().all(|met| *met), "{limit}");
-        }
-    }
-}

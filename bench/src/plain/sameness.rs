@@ -2,47 +2,57 @@
 
 use super::{eliminate_balance, report, sweep};
 use crate::case::Slices;
-use crate::comparison::sweeps::compare_sweeps;
-use crate::comparison::systems::compare;
-use crate::comparison::texts::compare_texts;
+use crate::comparison::{compare, goals, Elimination, Goal, Trial};
 use crate::generator::{
     edge_cases, edge_lists, edge_texts, random_cases, random_lists, random_texts,
 };
-use crate::reference::{Call, Outcome};
+use crate::reference::{Call, Interval, Operation, Outcome};
+use crate::side::{Flat, Side};
 
-fn plain_elimination(_: Call, n: usize, lent: Slices) -> Outcome {
-    eliminate_balance(n, lent.matrix, lent.right_side, lent.bounds)
+struct Plain;
+
+impl Side for Plain {
+    fn step(&self, _: Operation, _: Interval, _: Interval) -> Flat {
+        unimplemented!("no task is a single step")
+    }
+
+    fn eliminate(&self, call: Call, n: usize, lent: Slices) -> Outcome {
+        assert_eq!(call, Call::EliminateBalance, "every task is a balance");
+        eliminate_balance(n, lent.matrix, lent.right_side, lent.bounds)
+    }
+
+    fn sweep(&self, n: usize, lent: Slices, allowed: usize) -> Outcome {
+        sweep(n, lent.matrix, lent.right_side, lent.bounds, allowed)
+    }
+
+    fn report(&self, text: &mut [u8], out: &mut [u8]) -> Outcome {
+        report(text, out)
+    }
 }
 
-fn plain_sweep(n: usize, lent: Slices, allowed: usize) -> Outcome {
-    sweep(n, lent.matrix, lent.right_side, lent.bounds, allowed)
-}
-
-fn plain_report(text: &mut [u8], out: &mut [u8]) -> Outcome {
-    report(text, out)
+/// Over everything that the reference can reach.
+fn assert_same<T: Trial>(goals: Vec<Goal>, trials: impl Iterator<Item = T>, calls: u64) {
+    let tally = compare(goals, trials, calls, &Plain);
+    let tally = tally.unwrap_or_else(|difference| panic!("{difference}"));
+    assert_eq!(tally.unreached(), [""; 0]);
 }
 
 #[test]
 fn eliminations_are_the_same() {
     let call = Call::EliminateBalance;
-    let random = random_cases(call, 31).take(100_000);
-    let tally = compare(call, edge_cases(call).chain(random), plain_elimination);
-    let tally = tally.unwrap_or_else(|difference| panic!("{difference}"));
-    assert!(tally.unreached(call).is_empty());
+    let cases = edge_cases(call).chain(random_cases(call, 31).take(100_000));
+    let trials = cases.map(|lent| Elimination { call, lent });
+    assert_same(goals::of_elimination(call), trials, u64::MAX);
 }
 
 #[test]
 fn sweeps_are_the_same() {
     let lists = edge_lists().chain(random_lists(31));
-    let tally = compare_sweeps(lists, 600_000, plain_sweep);
-    let tally = tally.unwrap_or_else(|difference| panic!("{difference}"));
-    assert!(tally.unreached().is_empty());
+    assert_same(goals::of_sweep(), lists, 600_000);
 }
 
 #[test]
 fn reports_are_the_same() {
     let texts = edge_texts().chain(random_texts(31).take(30_000));
-    let tally = compare_texts(texts, plain_report);
-    let tally = tally.unwrap_or_else(|difference| panic!("{difference}"));
-    assert!(tally.unreached().is_empty());
+    assert_same(goals::of_report(), texts, u64::MAX);
 }

@@ -9,8 +9,6 @@ mod outcome;
 mod sheet;
 mod steps;
 mod sweep;
-#[cfg(test)]
-mod sweep_facts;
 mod system;
 mod text;
 #[cfg(test)]
@@ -20,7 +18,7 @@ pub use elimination::{calculate, eliminate, eliminate_balance, numerator, trace,
 pub use interval::{rounded_product, rounded_quotient, Interval, WideInterval, LIMIT, SCALE};
 pub use numbers::*;
 pub use outcome::{Outcome, Phase, Slice, Stop};
-pub use sheet::{report, sheet, sheet_end, SheetEnd, SHEET_LENGTH, SHEET_SWEEPS};
+pub use sheet::{print, report, report_end, sheet, ReportEnd, SHEET_LENGTH, SHEET_SWEEPS};
 pub use steps::{difference, product, quotient, step, sum, Operation, Step};
 pub use sweep::{right_hand, sweep, sweep_end, sweeps, SweepEnd, MOST_SWEEPS};
 pub use system::{intervals, laid_flat, System, MOST_EQUATIONS};

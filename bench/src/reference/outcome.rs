@@ -89,15 +89,7 @@ impl fmt::Display for Outcome {
 impl Slice {
     pub const ALL: [Slice; 3] = [Slice::Matrix, Slice::RightSide, Slice::Box];
 
-    pub fn name(self) -> &'static str {
-        match self {
-            Slice::Matrix => "the matrix",
-            Slice::RightSide => "the right side",
-            Slice::Box => "the box",
-        }
-    }
-
-    fn place(self) -> u64 {
+    pub fn place(self) -> u64 {
         match self {
             Slice::Matrix => 1,
             Slice::RightSide => 2,
@@ -115,17 +107,6 @@ impl Phase {
         Phase::Numerator,
         Phase::Quotient,
     ];
-
-    pub fn name(self) -> &'static str {
-        match self {
-            Phase::Forming => "forming",
-            Phase::Factor => "factor",
-            Phase::Entry => "entry",
-            Phase::RightSide => "right side",
-            Phase::Numerator => "numerator",
-            Phase::Quotient => "quotient",
-        }
-    }
 }
 
 impl From<Stop> for Outcome {

@@ -2,6 +2,7 @@
 
 use super::elimination::{calculate, Call};
 use super::interval::Interval;
+use super::numbers::{DONE, SPENT};
 use super::outcome::{Outcome, Slice, Stop};
 use super::sweep::{sweeps, SweepEnd};
 use super::system::System;
@@ -14,9 +15,11 @@ pub const SHEET_SWEEPS: usize = 100;
 /// The length that a lent sheet must have, more than any sheet needs.
 pub const SHEET_LENGTH: usize = 2_048;
 
-/// How a text fared.
+/// How a report call fared.
 #[derive(Clone, Debug, PartialEq, Eq)]
-pub enum SheetEnd<'a> {
+pub enum ReportEnd<'a> {
+    /// The lent sheet has the wrong length.
+    Length,
     Faulty(TextFault),
     /// By the tests or the calculation of the elimination.
     Refused {
@@ -29,58 +32,86 @@ pub enum SheetEnd<'a> {
     },
 }
 
-/// The sheet for a text.
+/// What the program prints for a text.
 pub fn sheet(text: &[u8]) -> Vec<u8> {
-    sheet_end(text).sheet()
+    report_end(text, SHEET_LENGTH).sheet()
 }
 
-/// Writes the sheet at the start of `out` and counts its bytes. Nothing is
-/// read or written if `out` has the wrong length.
+/// The report call: writes the sheet at the start of `out`, unless it refuses.
 pub fn report(text: &[u8], out: &mut [u8]) -> Outcome {
+    report_end(text, out.len()).finish(out)
+}
+
+/// The print call: all that the program prints, at the start of `out`.
+pub fn print(text: &[u8], out: &mut [u8]) -> Outcome {
     if out.len() != SHEET_LENGTH {
         return Stop::Length(Slice::Box).into();
     }
-    let sheet = sheet(text);
-    out[..sheet.len()].copy_from_slice(&sheet);
-    Outcome::counted(0, 0, sheet.len() as u64)
+    written(&sheet(text), out, Outcome::DONE)
 }
 
-/// One text with all that can be known of it.
-pub fn sheet_end(text: &[u8]) -> SheetEnd<'_> {
+/// One call with all that can be known of it, its tests in their sequence.
+pub fn report_end(text: &[u8], sheet_length: usize) -> ReportEnd<'_> {
     match read_text(text) {
+        Ok(_) if sheet_length != SHEET_LENGTH => ReportEnd::Length,
         Ok(text) => balance(text),
-        Err(fault) => SheetEnd::Faulty(fault),
+        Err(fault) => ReportEnd::Faulty(fault),
     }
 }
 
 /// Eliminates, then sweeps over the box that was written.
-fn balance(text: CellarText) -> SheetEnd {
+fn balance(text: CellarText) -> ReportEnd {
     let n = text.n;
     let eliminated = System::read(n, &text.matrix, &text.right_side, 2 * n).and_then(|balance| {
         let trace = calculate(Call::EliminateBalance, balance.clone());
         Ok((balance, trace.end?))
     });
     match eliminated {
-        Ok((balance, start)) => SheetEnd::Swept {
+        Ok((balance, start)) => ReportEnd::Swept {
             text,
             end: sweeps(&balance, start, SHEET_SWEEPS),
         },
-        Err(stop) => SheetEnd::Refused { n, stop },
+        Err(stop) => ReportEnd::Refused { n, stop },
     }
 }
 
-impl SheetEnd<'_> {
-    pub fn sheet(&self) -> Vec<u8> {
-        match self {
-            SheetEnd::Faulty(fault) => refusal(fault.outcome()),
-            SheetEnd::Refused { stop, .. } => refusal((*stop).into()),
-            SheetEnd::Swept { text, end } => match end {
-                SweepEnd::Settled { count, bounds } => printed(text, bounds, "settled", *count),
-                SweepEnd::Spent { count, bounds } => printed(text, bounds, "spent", *count),
-                _ => refusal(end.outcome()),
-            },
+impl ReportEnd<'_> {
+    /// Writes the sheet, if bounds were reached. The one place that tells what
+    /// the call returns: the count is of bytes, and 0 with a refusal.
+    pub fn finish(&self, out: &mut [u8]) -> Outcome {
+        let said = self.said();
+        match said.number {
+            DONE | SPENT => written(&self.sheet(), out, said),
+            _ => Outcome::new(said.number, said.place),
         }
     }
+
+    /// Settled, spent or refused; the count is of sweeps.
+    pub fn said(&self) -> Outcome {
+        match self {
+            ReportEnd::Length => Stop::Length(Slice::Box).into(),
+            ReportEnd::Faulty(fault) => fault.outcome(),
+            ReportEnd::Refused { stop, .. } => (*stop).into(),
+            ReportEnd::Swept { end, .. } => end.outcome(),
+        }
+    }
+
+    fn sheet(&self) -> Vec<u8> {
+        let ReportEnd::Swept { text, end } = self else {
+            return refusal(self.said());
+        };
+        match end {
+            SweepEnd::Settled { count, bounds } => printed(text, bounds, "settled", *count),
+            SweepEnd::Spent { count, bounds } => printed(text, bounds, "spent", *count),
+            _ => refusal(self.said()),
+        }
+    }
+}
+
+/// Number and place as said; the count is of the bytes that are written.
+fn written(bytes: &[u8], out: &mut [u8], said: Outcome) -> Outcome {
+    out[..bytes.len()].copy_from_slice(bytes);
+    Outcome::counted(said.number, said.place, bytes.len() as u64)
 }
 
 fn refusal(outcome: Outcome) -> Vec<u8> {
@@ -92,13 +123,13 @@ fn printed(text: &CellarText, bounds: &[Interval], word: &str, count: u64) -> Ve
     sheet.extend(text.names_line);
     for (index, Interval { lo, hi }) in bounds.iter().enumerate() {
         let before = if index == 0 { '\n' } else { ';' };
-        print(&mut sheet, format_args!("{before}{lo}:{hi}"));
+        append(&mut sheet, format_args!("{before}{lo}:{hi}"));
     }
-    print(&mut sheet, format_args!("\n{word} {count}\n"));
+    append(&mut sheet, format_args!("\n{word} {count}\n"));
     sheet
 }
 
-fn print(sheet: &mut Vec<u8>, arguments: std::fmt::Arguments) {
+fn append(sheet: &mut Vec<u8>, arguments: std::fmt::Arguments) {
     let written = sheet.write_fmt(arguments);
     written.expect("writing to a vector does not fail");
 }
@@ -106,7 +137,7 @@ fn print(sheet: &mut Vec<u8>, arguments: std::fmt::Arguments) {
 #[cfg(test)]
 mod tests {
     use super::*;
-    use crate::samples::texts::{INPUT, OUTPUT};
+    use crate::samples::{INPUT, OUTPUT};
 
     /// As text, so that a failing test can be read.
     fn sheet_of(text: &str) -> String {

@@ -72,27 +72,6 @@ impl TextFault {
     }
 }
 
-impl TextPart {
-    pub fn name(self) -> &'static str {
-        match self {
-            TextPart::Names => "the names line",
-            TextPart::Shares => "a line of shares",
-            TextPart::Deliveries => "the line of deliveries",
-            TextPart::Surplus => "a surplus line",
-        }
-    }
-}
-
-impl Flaw {
-    pub fn name(self) -> &'static str {
-        match self {
-            Flaw::Missing => "missing",
-            Flaw::Unended => "unended",
-            Flaw::IllFormed => "ill-formed",
-        }
-    }
-}
-
 /// The names and numbers of a text, or its first fault.
 pub fn read_text(text: &[u8]) -> Result<CellarText<'_>, TextFault> {
     test_length(text)?;

@@ -2,7 +2,34 @@
 
 use super::{name_range, read_text, CellarText, TextFault, LONGEST_NAME, MOST_BYTES};
 use crate::generator::FAULTY_SPELLINGS;
-use crate::samples::texts::{with_line, with_lower, FAULTY_LINES, LINES};
+
+/// The program's input line by line.
+const LINES: [&str; 4] = [
+    "V1;V2\n",
+    "0:0;0:500000\n",
+    "500000:500000;0:0\n",
+    "3000000:3000000;0:0\n",
+];
+
+/// The input with another line of that number.
+fn with_line(number: usize, line: &str) -> String {
+    let mut lines = LINES;
+    lines[number - 1] = line;
+    lines.concat()
+}
+
+/// One vat whose share has this lower end.
+fn with_lower(lower: &str) -> String {
+    format!("a\n{lower}:9999999999\n0:0\n")
+}
+
+/// Lines that do not hold two values as described.
+#[rustfmt::skip]
+const FAULTY_LINES: [&str; 19] = [
+    "\n", "0:0\n", "0:0;\n", ";0:0\n", "0:0;0:0;\n", ";0:0;0:0\n", "0:0;;0:0\n", "0:0;0:0;0:0\n",
+    "0:0,0:0\n", "0:0;0\n", "0:0;0:\n", "0:0;:0\n", "0:0;:\n", "0:0;0:0:0\n", "0:0;0::0\n",
+    "0:0;0:0 \n", "0:0;0:0\r\n", "0:0 ;0:0\n", "0:0; 0:0\n",
+];
 
 /// The line of the first fault, 0 for a text that is too long.
 fn fault(text: &[u8]) -> Option<u64> {

@@ -9,7 +9,8 @@
 //   T length          a text: a line end, and so many bytes; then its cases:
 //     R m r           its numbers, into slices of these lengths; n stands for the count
 //     N vat           the name of a vat: its length and its bytes
-//     P length        its sheet, into a slice of this length
+//     W length        its sheet or its refusal, into a slice of this length
+//     P length        what 'balance' prints for it, into a slice of this length
 mod file;
 mod lines;
 mod steps;

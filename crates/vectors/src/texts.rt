@@ -11,7 +11,7 @@ ghost use Rattle.io.specs.Counts.{Counts};
 
 fn is_call(letter: u8) -> bool {
     match letter {
-        b'R' | b'N' | b'S' | b'P' => true,
+        b'R' | b'N' | b'W' | b'P' => true,
         _ => false,
     }
 }
@@ -114,9 +114,9 @@ fn show_sheet(w: report::Written, out: &mut [u8]) {
     lines::say(&out[..end]);
 }
 
-// 'S' reports and 'P' prints.
+// 'W' reports and 'P' prints.
 fn sheet(text: &[u8], letter: u8, out: &mut [u8]) {
-    if letter == b'S' {
+    if letter == b'W' {
         let w = report::report(text, out);
         show_sheet(w, out);
         return;

@@ -1,55 +1,132 @@
 //! Compares the archive with the reference.
 
-mod rows;
-mod steps;
-#[cfg(feature = "sweep")]
-mod sweeps;
-#[cfg(feature = "elimination")]
-mod systems;
-#[cfg(feature = "report")]
-mod texts;
-#[cfg(feature = "elimination")]
-mod unmet;
+mod program;
 
+use kifwaleb_bench::archive::Archive;
+use kifwaleb_bench::comparison::{compare, goals, Elimination, Goal, Pair, Trial};
+use kifwaleb_bench::generator::{
+    edge_cases, edge_lists, edge_pairs, edge_texts, random_cases, random_lists, random_pairs,
+    random_texts,
+};
 use kifwaleb_bench::plan::{Plan, USAGE};
+use kifwaleb_bench::reference::{Call, Operation};
+use kifwaleb_bench::samples;
 use std::env;
 use std::process::ExitCode;
-
-/// A comparison, or what is said if the archive's calls are not linked.
-macro_rules! if_linked {
-    ($feature:literal, $comparison:expr) => {{
-        #[cfg(feature = $feature)]
-        let holds = $comparison;
-        #[cfg(not(feature = $feature))]
-        let holds = {
-            println!("not compared, the feature is off: {}", $feature);
-            true
-        };
-        holds
-    }};
-}
-
-fn all_hold(plan: &Plan) -> bool {
-    steps::hold(plan)
-        && if_linked!("elimination", systems::hold(plan))
-        && if_linked!("sweep", sweeps::hold(plan))
-        && if_linked!("report", texts::hold(plan))
-}
 
 fn main() -> ExitCode {
     let Some(plan) = Plan::read(env::args().skip(1)) else {
         eprintln!("{USAGE}");
         return ExitCode::from(2);
     };
-    println!("{} random pairs per step, seed {}", plan.pairs, plan.seed);
-    println!("{} random systems over both calls", plan.systems);
-    println!(
-        "{} random sweep calls, {} random texts",
-        plan.sweeps, plan.texts
-    );
+    println!("{plan:?}");
     if all_hold(&plan) {
         ExitCode::SUCCESS
     } else {
         ExitCode::FAILURE
+    }
+}
+
+fn all_hold(plan: &Plan) -> bool {
+    samples_hold()
+        && Operation::ALL
+            .into_iter()
+            .all(|step| steps_hold(plan, step))
+        && Call::ALL
+            .into_iter()
+            .all(|call| eliminations_hold(plan, call))
+        && sweeps_hold(plan)
+        && reports_hold(plan)
+        && program::holds(plan)
+}
+
+/// True if the archive gives every answer that the documents write down.
+fn samples_hold() -> bool {
+    println!("comparing the samples of the documents");
+    let unmet = samples::unmet(&Archive);
+    unmet
+        .iter()
+        .for_each(|line| println!("sample not met\n  {line}"));
+    unmet.is_empty()
+}
+
+fn steps_hold(plan: &Plan, operation: Operation) -> bool {
+    let pair = |(a, b)| Pair { operation, a, b };
+    let goals = || goals::of_step(operation);
+    let (edge, random) = (edge_pairs(), random_pairs(operation, plan.seed));
+    let name = operation.name();
+    holds(name, "edge pairs", goals(), edge.map(pair), u64::MAX)
+        && holds(name, "random pairs", goals(), random.map(pair), plan.pairs)
+}
+
+fn eliminations_hold(plan: &Plan, call: Call) -> bool {
+    let elimination = |lent| Elimination { call, lent };
+    let goals = || goals::of_elimination(call);
+    let edge = edge_cases(call).map(elimination);
+    let random = random_cases(call, plan.seed).map(elimination);
+    let calls = plan.systems / Call::ALL.len() as u64;
+    holds(call.name(), "edge systems", goals(), edge, u64::MAX)
+        && holds(call.name(), "random systems", goals(), random, calls)
+}
+
+fn sweeps_hold(plan: &Plan) -> bool {
+    let random = random_lists(plan.seed);
+    holds(
+        "sweep",
+        "edge calls",
+        goals::of_sweep(),
+        edge_lists(),
+        u64::MAX,
+    ) && holds(
+        "sweep",
+        "random calls",
+        goals::of_sweep(),
+        random,
+        plan.sweeps,
+    )
+}
+
+fn reports_hold(plan: &Plan) -> bool {
+    let random = random_texts(plan.seed);
+    holds(
+        "report",
+        "edge texts",
+        goals::of_report(),
+        edge_texts(),
+        u64::MAX,
+    ) && holds(
+        "report",
+        "random texts",
+        goals::of_report(),
+        random,
+        plan.texts,
+    )
+}
+
+/// Compares one row and prints the difference, or what was reached. True if
+/// nothing differs and the row reached everything: edge cases must not hide what
+/// random cases miss, nor the reverse.
+fn holds<T: Trial>(
+    call: &str,
+    kind: &str,
+    goals: Vec<Goal>,
+    trials: impl Iterator<Item = T>,
+    calls: u64,
+) -> bool {
+    // Said beforehand, so that a crash in the archive can be placed.
+    println!("comparing {call}, {kind}");
+    match compare(goals, trials, calls, &Archive) {
+        Err(difference) => {
+            println!("{difference}");
+            false
+        }
+        Ok(tally) => {
+            println!("{call}, {} {kind}; {}", tally.calls(), tally.report());
+            let unreached = tally.unreached();
+            unreached
+                .iter()
+                .for_each(|goal| println!("  never reached: {goal}"));
+            unreached.is_empty()
+        }
     }
 }

@@ -8,7 +8,7 @@ mod tasks;
 use rounds::Measured;
 use std::env;
 use std::process::ExitCode;
-use tasks::{Kind, Side, Task};
+use tasks::{Kind, Side, KINDS};
 
 const USAGE: &str = "usage: speed [ROUNDS]\n       speed count CASE ours|theirs TIMES";
 
@@ -36,7 +36,7 @@ fn main() -> ExitCode {
 
 /// Every case in the sequence of the table.
 fn all() -> impl Iterator<Item = (Kind, usize)> {
-    let kinds = Kind::ALL.into_iter();
+    let kinds = KINDS.into_iter();
     kinds.flat_map(|kind| SIZES.map(|n| (kind, n)))
 }
 
@@ -45,7 +45,7 @@ fn names() -> impl Iterator<Item = String> {
 }
 
 fn name(kind: Kind, n: usize) -> String {
-    format!("{}-{n}", kind.name())
+    format!("{}-{n}", kind.0)
 }
 
 /// Nothing if there are no rounds.
@@ -59,7 +59,7 @@ fn compare(rounds: usize) -> Option<()> {
     println!("| case | ours | theirs | lower | median | upper | fastest |");
     println!("|---|---|---|---|---|---|---|");
     for (kind, n) in all() {
-        let mut task = Task::new(kind, n);
+        let mut task = kind.1(n);
         task.assert_same_answers();
         println!(
             "{}",
@@ -89,7 +89,7 @@ fn count(wanted: &str, side: &str, times: &str) -> Option<()> {
         _ => return None,
     };
     let times = times.parse().ok()?;
-    Task::new(kind, n).run(side, times);
+    kind.1(n).run(side, times);
     Some(())
 }
 

@@ -1,11 +1,12 @@
 //! What is done by both sides.
 
 use crate::balances::{longest, mixed, shares, slow_dense, slow_noughts, with_wide_box};
-use kifwaleb_bench::archive;
+use kifwaleb_bench::archive::Archive;
 use kifwaleb_bench::case::{Case, Slices};
 use kifwaleb_bench::generator::long_named_text;
 use kifwaleb_bench::plain;
 use kifwaleb_bench::reference::{Call, Outcome, DONE, MOST_SWEEPS, SHEET_LENGTH, SPENT};
+use kifwaleb_bench::side::Side as _;
 use std::hint::black_box;
 
 #[derive(Clone, Copy)]
@@ -16,46 +17,22 @@ pub enum Side {
     Theirs,
 }
 
-#[derive(Clone, Copy)]
-pub enum Kind {
-    EliminateShares,
-    EliminateMixed,
-    SweepShares,
-    SweepMixed,
-    SlowNoughts,
-    SlowDense,
-    ReadLongest,
-    SheetLongest,
-    SheetShares,
-}
+/// What a task is called, and how it is made for so many vats.
+pub type Kind = (&'static str, fn(usize) -> Task);
 
-impl Kind {
-    pub const ALL: [Kind; 9] = [
-        Kind::EliminateShares,
-        Kind::EliminateMixed,
-        Kind::SweepShares,
-        Kind::SweepMixed,
-        Kind::SlowNoughts,
-        Kind::SlowDense,
-        Kind::ReadLongest,
-        Kind::SheetLongest,
-        Kind::SheetShares,
-    ];
-
-    pub fn name(self) -> &'static str {
-        match self {
-            Kind::EliminateShares => "eliminate-shares",
-            Kind::EliminateMixed => "eliminate-mixed",
-            Kind::SweepShares => "sweep-shares",
-            Kind::SweepMixed => "sweep-mixed",
-            Kind::SlowNoughts => "slow-noughts",
-            Kind::SlowDense => "slow-dense",
-            Kind::ReadLongest => "read-longest",
-            Kind::SheetLongest => "sheet-longest",
-            Kind::SheetShares => "sheet-shares",
-        }
-    }
-}
+pub const KINDS: [Kind; 9] = [
+    ("eliminate-shares", |n| Task::Eliminate(shares(n))),
+    ("eliminate-mixed", |n| Task::Eliminate(mixed(n))),
+    ("sweep-shares", |n| Task::sweep(with_wide_box(shares(n)), 1)),
+    ("sweep-mixed", |n| Task::sweep(with_wide_box(mixed(n)), 1)),
+    ("slow-noughts", |n| {
+        Task::sweep(slow_noughts(n), MOST_SWEEPS)
+    }),
+    ("slow-dense", |n| Task::sweep(slow_dense(n), MOST_SWEEPS)),
+    ("read-longest", |n| Task::report(&crossed(longest(n)))),
+    ("sheet-longest", |n| Task::report(&longest(n))),
+    ("sheet-shares", |n| Task::report(&shares(n))),
+];
 
 /// One call with its arguments, to be repeated.
 pub enum Task {
@@ -74,20 +51,6 @@ pub enum Task {
 }
 
 impl Task {
-    pub fn new(kind: Kind, n: usize) -> Task {
-        match kind {
-            Kind::EliminateShares => Task::Eliminate(shares(n)),
-            Kind::EliminateMixed => Task::Eliminate(mixed(n)),
-            Kind::SweepShares => Task::sweep(with_wide_box(shares(n)), 1),
-            Kind::SweepMixed => Task::sweep(with_wide_box(mixed(n)), 1),
-            Kind::SlowNoughts => Task::sweep(slow_noughts(n), MOST_SWEEPS),
-            Kind::SlowDense => Task::sweep(slow_dense(n), MOST_SWEEPS),
-            Kind::ReadLongest => Task::report(&crossed(longest(n))),
-            Kind::SheetLongest => Task::report(&longest(n)),
-            Kind::SheetShares => Task::report(&shares(n)),
-        }
-    }
-
     fn sweep(lent: Case, allowed: usize) -> Task {
         Task::Sweep {
             start: lent.bounds.clone(),
@@ -171,21 +134,21 @@ fn slices(case: &mut Case) -> Slices<'_> {
 impl Side {
     fn eliminate(self, n: usize, lent: Slices) -> Outcome {
         match self {
-            Side::Ours => archive::elimination::call(Call::EliminateBalance, n, lent),
+            Side::Ours => Archive.eliminate(Call::EliminateBalance, n, lent),
             Side::Theirs => plain::eliminate_balance(n, lent.matrix, lent.right_side, lent.bounds),
         }
     }
 
     fn sweep(self, n: usize, lent: Slices, allowed: usize) -> Outcome {
         match self {
-            Side::Ours => archive::sweep::call(n, lent, allowed),
+            Side::Ours => Archive.sweep(n, lent, allowed),
             Side::Theirs => plain::sweep(n, lent.matrix, lent.right_side, lent.bounds, allowed),
         }
     }
 
     fn report(self, text: &mut [u8], out: &mut [u8]) -> Outcome {
         match self {
-            Side::Ours => archive::report::call(text, out),
+            Side::Ours => Archive.report(text, out),
             Side::Theirs => plain::report(text, out),
         }
     }
@@ -197,38 +160,39 @@ mod tests {
 
     #[test]
     fn both_sides_answer_alike() {
-        for kind in Kind::ALL {
+        for (_, task) in KINDS {
             for n in [4, 8, 16, 32] {
-                Task::new(kind, n).assert_same_answers();
+                task(n).assert_same_answers();
             }
         }
     }
 
-    /// The text's length, and the sheet as text.
-    fn reported(kind: Kind) -> (usize, String) {
-        let mut task = Task::new(kind, 32);
-        let count = task.run_once(Side::Theirs).count as usize;
+    /// The text's length, how the call ended, and the sheet as text.
+    fn reported(kind: &str) -> (usize, Outcome, String) {
+        let found = KINDS.iter().find(|(name, _)| *name == kind);
+        let mut task = found.unwrap().1(32);
+        let outcome = task.run_once(Side::Theirs);
         let Task::Report { text, out } = task else {
-            panic!("{} is no report", kind.name());
+            panic!("{kind} is no report");
         };
-        let sheet = out[..count].to_vec();
-        (text.len(), String::from_utf8(sheet).unwrap())
+        let sheet = out[..outcome.count as usize].to_vec();
+        (text.len(), outcome, String::from_utf8(sheet).unwrap())
     }
 
     /// 32 names of 16 bytes and 33 · 32 values of 23, each with the byte after.
     #[test]
     fn the_longest_text_is_read_and_has_a_sheet() {
         let longest = 32 * 17 + 33 * 32 * 24;
-        let (length, sheet) = reported(Kind::ReadLongest);
-        assert_eq!((length, sheet.as_str()), (longest, "refused 3 0\n"));
-        let (length, sheet) = reported(Kind::SheetLongest);
+        let (length, outcome, _) = reported("read-longest");
+        assert_eq!((length, outcome), (longest, Outcome::new(3, 0)));
+        let (length, _, sheet) = reported("sheet-longest");
         assert_eq!(length, longest);
         assert!(sheet.ends_with("\nsettled 1\n"), "{sheet}");
     }
 
     #[test]
     fn the_shares_are_swept_more_than_once() {
-        let (_, sheet) = reported(Kind::SheetShares);
+        let (_, _, sheet) = reported("sheet-shares");
         assert!(sheet.ends_with("\nsettled 19\n"), "{sheet}");
     }
 }

@@ -4,21 +4,10 @@ use crate::generator::Random;
 use crate::reference::{System, MOST_SWEEPS};
 
 /// Refused numbers. Cut to fewer bits, the far ones would pass for the near.
+#[rustfmt::skip]
 pub const REFUSED: [usize; 14] = [
-    0,
-    10_001,
-    10_002,
-    20_000,
-    1 << 16,
-    (1 << 16) + 1,
-    (1 << 32) - 1,
-    1 << 32,
-    (1 << 32) + 1,
-    (1 << 32) + 10_000,
-    (1 << 63) - 1,
-    1 << 63,
-    (1 << 63) + 1,
-    usize::MAX,
+    0, 10_001, 10_002, 20_000, 1 << 16, (1 << 16) + 1, (1 << 32) - 1, 1 << 32, (1 << 32) + 1,
+    (1 << 32) + 10_000, (1 << 63) - 1, 1 << 63, (1 << 63) + 1, usize::MAX,
 ];
 
 /// So many products in one call take little time.
@@ -59,20 +48,4 @@ fn settles_soon(balance: &System) -> bool {
         let magnitudes = row.map(|share| share.lo.abs().max(share.hi.abs()));
         magnitudes.sum::<i64>() <= 900_000
     })
-}
-
-#[cfg(test)]
-mod tests {
-    use super::*;
-    use crate::samples::systems::one_balance;
-
-    #[test]
-    fn numbers_at_both_limits_are_met() {
-        let mut random = Random::new(3);
-        let lists = (0..20_000).map(|_| for_list(&mut random, &one_balance()));
-        let numbers: Vec<_> = lists.flatten().collect();
-        for wanted in [0, 1, 2, 9_999, 10_000, 10_001, usize::MAX] {
-            assert!(numbers.contains(&wanted), "{wanted}");
-        }
-    }
 }

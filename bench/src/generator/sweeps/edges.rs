@@ -1,17 +1,21 @@
 //! The edge lists of sweep calls, always the same.
 
 use super::{faults, lent, slow, small};
-use crate::list::{Solution, SweepList};
+use crate::case_file::Entry;
 use crate::reference::{Interval, System, LIMIT};
-use crate::samples::sweeps as samples;
+use crate::samples;
+use crate::sweep_list::{Solution, SweepList};
 
 const ONE: i64 = 1_000_000;
 
 /// Every edge list.
 pub fn edge_lists() -> impl Iterator<Item = SweepList> {
-    let sampled = samples::all().into_iter();
+    let sampled = samples::system_calls().into_iter();
     sampled
-        .map(|sample| SweepList::new(sample.case, &[sample.way, 1]))
+        .filter_map(|(call, lent)| match call {
+            Entry::Sweep(allowed) => Some(SweepList::new(lent, &[allowed, 1])),
+            _ => None,
+        })
         .chain(solved())
         .chain(faults::sizes())
         .chain(faults::lengths())
@@ -120,17 +124,4 @@ fn far_sums() -> impl Iterator<Item = SweepList> {
         let start = vec![Interval::new(low.min(high), low.max(high)); n];
         SweepList::new(lent(&balance, &start), &[1, 3])
     })
-}
-
-#[cfg(test)]
-mod tests {
-    use super::*;
-    use crate::comparison::sweeps::compare_sweeps;
-    use crate::list::reference_sweep;
-
-    #[test]
-    fn edge_lists_reach_everything() {
-        let tally = compare_sweeps(edge_lists(), u64::MAX, reference_sweep).unwrap();
-        assert_eq!(tally.unreached(), [], "{}", tally.report());
-    }
 }

@@ -4,9 +4,9 @@ use super::allowances::REFUSED;
 use crate::case::Case;
 use crate::generator::systems::faults::{faulty_lengths, faulty_sizes};
 use crate::generator::systems::faults::{set_interval, FAULTY_ENDS};
-use crate::list::SweepList;
 use crate::reference::MOST_EQUATIONS;
-use crate::samples::systems::identity;
+use crate::samples::identity;
+use crate::sweep_list::SweepList;
 
 /// Good numbers, and a start box that is changed by the first sweep.
 fn good(n: usize) -> Case {
@@ -77,14 +77,14 @@ pub fn two_ends() -> impl Iterator<Item = SweepList> {
 #[cfg(test)]
 mod tests {
     use super::*;
-    use crate::list::reference_sweep;
     use crate::reference::Outcome;
+    use crate::side::{Reference, Side};
 
     fn outcome(list: &SweepList) -> Outcome {
         let allowed = list.allowed[0];
         let answer = list
             .lent
-            .answer(|n, slices| reference_sweep(n, slices, allowed));
+            .answer(|n, slices| Reference.sweep(n, slices, allowed));
         answer.outcome
     }
 
@@ -106,7 +106,7 @@ mod tests {
     fn refused_numbers_precede_ends_and_follow_lengths() {
         assert!(allowances().all(|list| outcome(&list) == Outcome::new(4, 0)));
         for list in lengths() {
-            let none = list.lent.answer(|n, slices| reference_sweep(n, slices, 0));
+            let none = list.lent.answer(|n, slices| Reference.sweep(n, slices, 0));
             let right = outcome(&list).number != 2;
             assert_eq!(none.outcome.number, if right { 4 } else { 2 });
         }

@@ -4,8 +4,8 @@ use super::{allowances, balances, lent, slow, solved, starts};
 use crate::generator::systems::sizes::size;
 use crate::generator::systems::spoiling::spoil;
 use crate::generator::Random;
-use crate::list::SweepList;
 use crate::reference::MOST_EQUATIONS;
+use crate::sweep_list::SweepList;
 
 /// Mostly few vats, as many as can be often enough.
 const SIZES: [u64; 8] = [15, 24, 20, 12, 15, 7, 5, 2];
@@ -65,18 +65,5 @@ impl Lists {
         let past = self.random.between(0, 2);
         let allowed = (changes + past).min(10_000) as usize;
         SweepList::new(case, &[allowed, self.random.pick(&[0, 1, 2, 10_001]), 1])
-    }
-}
-
-#[cfg(test)]
-mod tests {
-    use super::*;
-    use crate::comparison::sweeps::compare_sweeps;
-    use crate::list::reference_sweep;
-
-    #[test]
-    fn random_lists_reach_everything() {
-        let tally = compare_sweeps(random_lists(5), 150_000, reference_sweep).unwrap();
-        assert_eq!(tally.unreached(), [], "{}", tally.report());
     }
 }

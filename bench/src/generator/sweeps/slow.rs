@@ -3,8 +3,8 @@
 
 use super::lent;
 use crate::case::Case;
-use crate::list::SweepList;
 use crate::reference::{Interval, System};
+use crate::sweep_list::SweepList;
 
 const ONE: i64 = 1_000_000;
 
@@ -72,10 +72,10 @@ fn allowances(case: Case) -> impl Iterator<Item = SweepList> {
 #[cfg(test)]
 mod tests {
     use super::*;
-    use crate::list::reference_sweep;
+    use crate::side::{Reference, Side};
 
     fn outcome(case: &Case, allowed: usize) -> (u64, u64, u64) {
-        let answer = case.answer(|n, slices| reference_sweep(n, slices, allowed));
+        let answer = case.answer(|n, slices| Reference.sweep(n, slices, allowed));
         let outcome = answer.outcome;
         (outcome.number, outcome.place, outcome.count)
     }

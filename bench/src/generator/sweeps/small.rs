@@ -2,37 +2,25 @@
 //! awkward numbers in which nearly every product is rounded.
 
 use super::lent;
-use crate::list::SweepList;
 use crate::reference::{calculate, Call, Interval, System, LIMIT};
+use crate::sweep_list::SweepList;
 
 const ONE: i64 = 1_000_000;
 const WIDEST: Interval = Interval::new(-LIMIT, LIMIT);
 
+#[rustfmt::skip]
 const INTERVALS: [Interval; 16] = [
-    Interval::point(0),
-    Interval::point(1),
-    Interval::point(-1),
-    Interval::point(ONE),
-    Interval::point(-ONE),
-    Interval::point(999_999),
-    Interval::point(-500_000),
-    Interval::point(LIMIT),
-    Interval::point(-LIMIT),
-    Interval::new(0, 1),
-    Interval::new(-1, 1),
-    Interval::new(499_999, 500_001),
-    Interval::new(-333_333, 666_667),
-    Interval::new(-700_001, -300_001),
-    Interval::new(0, LIMIT),
-    WIDEST,
+    Interval::point(0), Interval::point(1), Interval::point(-1), Interval::point(ONE),
+    Interval::point(-ONE), Interval::point(999_999), Interval::point(-500_000),
+    Interval::point(LIMIT), Interval::point(-LIMIT), Interval::new(0, 1), Interval::new(-1, 1),
+    Interval::new(499_999, 500_001), Interval::new(-333_333, 666_667),
+    Interval::new(-700_001, -300_001), Interval::new(0, LIMIT), WIDEST,
 ];
 
+#[rustfmt::skip]
 const SHARES: [Interval; 5] = [
-    Interval::point(0),
-    Interval::point(500_000),
-    Interval::new(-333_333, 333_334),
-    Interval::new(0, 700_001),
-    Interval::point(ONE),
+    Interval::point(0), Interval::point(500_000), Interval::new(-333_333, 333_334),
+    Interval::new(0, 700_001), Interval::point(ONE),
 ];
 
 const DELIVERIES: [Interval; 3] = [

@@ -3,8 +3,8 @@
 use super::starts::{eliminated, spread};
 use super::{allowances, lent};
 use crate::generator::Random;
-use crate::list::{Solution, SweepList};
 use crate::reference::{Interval, System, LIMIT, SCALE};
+use crate::sweep_list::{Solution, SweepList};
 
 const ONE: i64 = 1_000_000;
 
@@ -98,9 +98,9 @@ fn around(random: &mut Random, balance: &System, weights: Fractions) -> SweepLis
 #[cfg(test)]
 mod tests {
     use super::*;
-    use crate::comparison::sweeps::compare_sweeps;
-    use crate::list::reference_sweep;
+    use crate::comparison::{compare, goals};
     use crate::reference::{calculate, Call};
+    use crate::side::Reference;
 
     /// Also the boxes that elimination writes, from which many lists start.
     #[test]
@@ -117,7 +117,7 @@ mod tests {
     fn the_reference_loses_no_solution() {
         let mut random = Random::new(12);
         let lists = (0..30_000).map(|round| list(&mut random, 1 + round % 10));
-        let tally = compare_sweeps(lists, u64::MAX, reference_sweep).unwrap();
+        let tally = compare(goals::of_sweep(), lists, u64::MAX, &Reference).unwrap();
         assert!(tally.calls() > 30_000);
     }
 

@@ -19,12 +19,11 @@ pub fn balance_of(system: &System) -> System {
 mod tests {
     use super::*;
     use crate::reference::{calculate, Call};
-    use crate::samples::systems::{arrow, two_balances, two_thirds};
+    use crate::samples::three_equations;
 
     #[test]
     fn a_system_and_its_balance_are_solved_alike() {
-        let half = Interval::new(0, 500_000);
-        for system in [arrow(), two_thirds(), balance_of(&two_balances(half, half))] {
+        for system in three_equations() {
             let direct = calculate(Call::Eliminate, system.clone());
             let balance = calculate(Call::EliminateBalance, balance_of(&system));
             assert_eq!(direct.end, balance.end);

@@ -28,18 +28,3 @@ pub fn random_content(random: &mut Random, length: usize) -> Vec<i64> {
         content(random.below(KINDS as u64) as usize, length)
     }
 }
-
-#[cfg(test)]
-mod tests {
-    use super::*;
-
-    #[test]
-    fn contents_have_the_wanted_length_and_differ() {
-        let contents: Vec<_> = (0..KINDS).map(|kind| content(kind, 5)).collect();
-        assert!(contents.iter().all(|content| content.len() == 5));
-        for (index, content) in contents.iter().enumerate() {
-            assert!(!contents[..index].contains(content));
-        }
-        assert_eq!(random_content(&mut Random::new(1), 5).len(), 5);
-    }
-}

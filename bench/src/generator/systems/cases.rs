@@ -74,18 +74,3 @@ impl Cases {
         balance.set_a(i, i, Interval::new(at_limit - past, upper));
     }
 }
-
-#[cfg(test)]
-mod tests {
-    use super::*;
-    use crate::comparison::systems::reached;
-
-    #[test]
-    fn random_cases_reach_everything() {
-        for call in Call::ALL {
-            let cases = random_cases(call, 5).take(100_000);
-            let tally = reached(call, cases);
-            assert_eq!(tally.unreached(call), [], "{}", tally.report(call));
-        }
-    }
-}

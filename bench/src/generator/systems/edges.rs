@@ -4,8 +4,9 @@ use super::balance::balance_of;
 use super::spots::{spots, Spot};
 use super::{boxes, faults, small};
 use crate::case::Case;
+use crate::case_file::Entry;
 use crate::reference::{Call, System, MOST_EQUATIONS};
-use crate::samples::systems::{self as samples, identity};
+use crate::samples::{self, identity};
 use std::ops::RangeInclusive;
 
 /// Up to this size every spot is planted.
@@ -40,15 +41,10 @@ pub fn edge_cases(call: Call) -> impl Iterator<Item = Case> {
 
 /// The samples of this call, and those of the other one in this call's form.
 fn sampled(call: Call) -> impl Iterator<Item = Case> {
-    let samples = samples::all().into_iter();
-    let native = samples.filter(move |sample| sample.way == call);
-    let arrows = [
-        samples::arrow(),
-        samples::exchanged_arrow(),
-        samples::two_thirds(),
-    ];
-    let formed = arrows.map(|system| in_the_form_of(call, &system));
-    native.map(|sample| sample.case).chain(formed)
+    let samples = samples::system_calls().into_iter();
+    let native = samples.filter(move |(of, _)| *of == Entry::Eliminate(call));
+    let formed = samples::three_equations().map(move |system| in_the_form_of(call, &system));
+    native.map(|(_, lent)| lent).chain(formed)
 }
 
 /// A·x = f as it stands, or as its balance.
@@ -83,18 +79,4 @@ fn pairs_of_spots() -> impl Iterator<Item = System> {
         let pairs = (0..count * count).map(move |code| (code / count, code % count));
         pairs.map(move |(first, second)| planted(n, &[&spots[first], &spots[second]]))
     })
-}
-
-#[cfg(test)]
-mod tests {
-    use super::*;
-    use crate::comparison::systems::reached;
-
-    #[test]
-    fn edge_cases_reach_everything() {
-        for call in Call::ALL {
-            let tally = reached(call, edge_cases(call));
-            assert_eq!(tally.unreached(call), [], "{}", tally.report(call));
-        }
-    }
 }

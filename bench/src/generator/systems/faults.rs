@@ -2,47 +2,25 @@
 
 use crate::case::Case;
 use crate::reference::{Interval, System, LIMIT, MOST_EQUATIONS};
-use crate::samples::systems::identity;
+use crate::samples::identity;
 use std::ops::RangeInclusive;
 
 /// Ends out of sequence or out of the range, in every way.
+#[rustfmt::skip]
 pub const FAULTY_ENDS: [Interval; 12] = [
-    Interval::new(1, 0),
-    Interval::new(LIMIT, -LIMIT),
-    Interval::point(LIMIT + 1),
-    Interval::point(-LIMIT - 1),
-    Interval::new(0, LIMIT + 1),
-    Interval::new(-LIMIT - 1, 0),
-    Interval::new(i64::MAX, i64::MIN),
-    Interval::new(i64::MIN, i64::MAX),
-    Interval::point(i64::MIN),
-    Interval::point(i64::MAX),
-    Interval::point(1 << 32),
-    Interval::new((1 << 32) + 1, 1 << 32),
+    Interval::new(1, 0), Interval::new(LIMIT, -LIMIT), Interval::point(LIMIT + 1),
+    Interval::point(-LIMIT - 1), Interval::new(0, LIMIT + 1), Interval::new(-LIMIT - 1, 0),
+    Interval::new(i64::MAX, i64::MIN), Interval::new(i64::MIN, i64::MAX), Interval::point(i64::MIN),
+    Interval::point(i64::MAX), Interval::point(1 << 32), Interval::new((1 << 32) + 1, 1 << 32),
 ];
 
 /// Sizes that are refused, each with the size whose slices are lent. Cut to 32
 /// bits, or multiplied without room, the far ones would pass for the near.
+#[rustfmt::skip]
 pub const FAULTY_SIZES: [(usize, usize); 20] = [
-    (0, 0),
-    (0, 1),
-    (33, 33),
-    (33, 32),
-    (34, 34),
-    (64, 64),
-    (65, 1),
-    (256, 0),
-    ((1 << 32) + 2, 2),
-    ((1 << 32) + 32, 32),
-    (1 << 32, 0),
-    (1 << 32, 1),
-    (1 << 63, 0),
-    ((1 << 63) + 1, 1),
-    ((1 << 63) + 2, 2),
-    ((1 << 63) + 32, 32),
-    (usize::MAX - 1, 2),
-    (usize::MAX, 1),
-    (usize::MAX, 0),
+    (0, 0), (0, 1), (33, 33), (33, 32), (34, 34), (64, 64), (65, 1), (256, 0), ((1 << 32) + 2, 2),
+    ((1 << 32) + 32, 32), (1 << 32, 0), (1 << 32, 1), (1 << 63, 0), ((1 << 63) + 1, 1),
+    ((1 << 63) + 2, 2), ((1 << 63) + 32, 32), (usize::MAX - 1, 2), (usize::MAX, 1), (usize::MAX, 0),
     (usize::MAX, 32),
 ];
 
@@ -160,11 +138,11 @@ pub fn two_faulty_ends() -> impl Iterator<Item = Case> {
 #[cfg(test)]
 mod tests {
     use super::*;
-    use crate::comparison::systems::reference_call;
     use crate::reference::{Call, Outcome};
+    use crate::side::{Reference, Side};
 
     fn outcome(case: &Case) -> Outcome {
-        let answer = case.answer(|n, slices| reference_call(Call::Eliminate, n, slices));
+        let answer = case.answer(|n, slices| Reference.eliminate(Call::Eliminate, n, slices));
         answer.outcome
     }
 

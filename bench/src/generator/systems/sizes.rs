@@ -26,18 +26,3 @@ pub fn size(random: &mut Random, hundredths: [u64; 8], most: usize) -> usize {
     }
     panic!("the shares come to less than a hundred");
 }
-
-#[cfg(test)]
-mod tests {
-    use super::*;
-
-    #[test]
-    fn every_size_is_drawn() {
-        let mut random = Random::new(1);
-        let shares = [10, 10, 10, 10, 20, 20, 15, 5];
-        let mut draw = |most| size(&mut random, shares, most);
-        let drawn: Vec<_> = (0..10_000).map(|_| draw(32)).collect();
-        assert!((1..=32).all(|n| drawn.contains(&n)));
-        assert!((0..1_000).all(|_| draw(3) <= 3));
-    }
-}

@@ -7,32 +7,16 @@ use crate::reference::{Interval, System, LIMIT};
 const ONE: i64 = 1_000_000;
 
 /// Ends for one equation; 2,000 over 1 unit is 2000, 2,001 is past it.
+#[rustfmt::skip]
 const ENDS: [i64; 14] = [
-    -LIMIT - 1,
-    -LIMIT,
-    -ONE,
-    -2_000,
-    -1,
-    0,
-    1,
-    3,
-    2_000,
-    2_001,
-    ONE,
-    1_600_000,
-    LIMIT,
-    LIMIT + 1,
+    -LIMIT - 1, -LIMIT, -ONE, -2_000, -1, 0, 1, 3, 2_000, 2_001, ONE, 1_600_000, LIMIT, LIMIT + 1,
 ];
 
 /// Entries for two equations.
+#[rustfmt::skip]
 const ENTRIES: [Interval; 8] = [
-    Interval::point(0),
-    Interval::point(ONE),
-    Interval::point(-3 * ONE),
-    Interval::point(1),
-    Interval::point(LIMIT),
-    Interval::new(0, ONE),
-    Interval::new(-700_001, 300_001),
+    Interval::point(0), Interval::point(ONE), Interval::point(-3 * ONE), Interval::point(1),
+    Interval::point(LIMIT), Interval::new(0, ONE), Interval::new(-700_001, 300_001),
     Interval::new(333_333, 500_000),
 ];
 
@@ -89,28 +73,4 @@ fn awkward(n: usize, variant: usize) -> System {
         system.set_f(i, interval(scattered(i, n + 1, variant) * 7));
     }
     system
-}
-
-#[cfg(test)]
-mod tests {
-    use super::*;
-    use crate::reference::{calculate, Call};
-
-    #[test]
-    fn systems_of_awkward_numbers_are_solved() {
-        let solved = |system| calculate(Call::Eliminate, system).end.is_ok();
-        assert!(awkward_numbers().all(solved));
-    }
-
-    #[test]
-    fn two_equations_are_solved_or_refused_at_either_pivot() {
-        let ends: Vec<_> = two_equations()
-            .map(|system| calculate(Call::Eliminate, system).outcome())
-            .collect();
-        for wanted in [(0, 0), (5, 1), (5, 2), (6, 1), (6, 2)] {
-            let met =
-                |outcome: &&crate::reference::Outcome| (outcome.number, outcome.place) == wanted;
-            assert!(ends.iter().filter(met).count() > 1_000, "{wanted:?}");
-        }
-    }
 }

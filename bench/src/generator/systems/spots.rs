@@ -10,14 +10,10 @@ const ZERO: Interval = Interval::point(0);
 const SIDES: [(i64, i64); 4] = [(1, 0), (1, 1), (-1, 0), (-1, 1)];
 
 /// Contains 0 in every way, or misses it by a unit.
+#[rustfmt::skip]
 const PIVOTS: [Interval; 7] = [
-    ZERO,
-    Interval::new(0, 1),
-    Interval::new(-1, 0),
-    Interval::new(-1, 1),
-    Interval::new(-LIMIT + ONE, LIMIT),
-    Interval::point(1),
-    Interval::point(-1),
+    ZERO, Interval::new(0, 1), Interval::new(-1, 0), Interval::new(-1, 1),
+    Interval::new(-LIMIT + ONE, LIMIT), Interval::point(1), Interval::point(-1),
 ];
 
 #[derive(Clone, Debug)]
@@ -177,28 +173,34 @@ fn formings(i: usize) -> impl Iterator<Item = Spot> {
 #[cfg(test)]
 mod tests {
     use super::*;
-    use crate::comparison::events::{Event, Tally};
-    use crate::reference::{calculate, Call, Phase, MOST_EQUATIONS};
-    use crate::samples::systems::identity;
+    use crate::reference::{calculate, Call, Phase, Stop};
+    use crate::samples::identity;
 
-    fn planted(n: usize, spots: impl Iterator<Item = Spot>) -> Tally {
-        let mut tally = Tally::default();
-        for spot in spots {
-            let mut system = identity(n);
-            spot.plant(&mut system);
-            tally.add(Event::of(n, &calculate(Call::Eliminate, system)));
-        }
-        tally
+    /// How many spots in four equations stop so, how many are accepted, and how
+    /// many there are.
+    fn planted(spots: impl Iterator<Item = Spot>, stop: Stop) -> [usize; 3] {
+        let ends: Vec<_> = spots
+            .map(|spot| {
+                let mut system = identity(4);
+                spot.plant(&mut system);
+                calculate(Call::Eliminate, system).end
+            })
+            .collect();
+        let stopped = ends.iter().filter(|end| **end == Err(stop));
+        let accepted = ends.iter().filter(|end| end.is_ok());
+        [stopped.count(), accepted.count(), ends.len()]
     }
 
     /// Of every four sides two are accepted and two are refused, in the phase
     /// and the row that were meant.
     fn assert_halved(spots: impl Iterator<Item = Spot>, phase: Phase, row: usize) {
-        let tally = planted(4, spots);
-        assert!(tally.total() >= 4);
-        let refused = tally.count(Event::OutOfRange { phase, row });
-        assert_eq!(2 * refused, tally.total(), "{phase:?} in row {row}");
-        assert_eq!(2 * tally.count(Event::Done { n: 4 }), tally.total());
+        let [stopped, accepted, all] = planted(spots, Stop::OutOfRange { phase, row });
+        assert!(all >= 4);
+        assert_eq!(
+            [2 * stopped, 2 * accepted],
+            [all; 2],
+            "{phase:?} in row {row}"
+        );
     }
 
     #[test]
@@ -212,10 +214,9 @@ mod tests {
             }
             for j in i + 1..=4 {
                 assert_halved(numerators(i, j), Phase::Numerator, i);
-                let third = j + 1..=4;
-                third.for_each(|l| {
+                for l in j + 1..=4 {
                     assert_halved(cancelling_numerators(i, j, l), Phase::Numerator, i);
-                });
+                }
             }
         }
     }
@@ -223,19 +224,7 @@ mod tests {
     #[test]
     fn pivots_contain_zero_or_miss_it() {
         for k in 1..=4 {
-            let tally = planted(4, pivots(k));
-            assert_eq!(tally.count(Event::Pivot { k }), 5);
-            assert_eq!(tally.count(Event::Done { n: 4 }), 2);
-        }
-    }
-
-    #[test]
-    fn large_systems_keep_a_spot_in_every_row() {
-        let tally = planted(MOST_EQUATIONS, spots(MOST_EQUATIONS).into_iter());
-        for event in Event::all(Call::Eliminate) {
-            if matches!(event, Event::Pivot { .. } | Event::OutOfRange { .. }) {
-                assert!(tally.count(event) > 0, "{event}");
-            }
+            assert_eq!(planted(pivots(k), Stop::Pivot { k }), [5, 2, 7]);
         }
     }
 }

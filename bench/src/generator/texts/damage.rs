@@ -45,18 +45,9 @@ pub fn tails(text: &[u8]) -> impl Iterator<Item = Vec<u8>> + '_ {
     TAILS.iter().map(move |tail| [text, tail].concat())
 }
 
+#[rustfmt::skip]
 pub const TAILS: [&[u8]; 12] = [
-    b"\n",
-    b"\r",
-    b"\r\n",
-    b"\0",
-    b" ",
-    b"\x1a",
-    b"0",
-    b"0:0",
-    b"0:0\n",
-    b"0:0;0:0\n",
-    b"\n\n\n",
+    b"\n", b"\r", b"\r\n", b"\0", b" ", b"\x1a", b"0", b"0:0", b"0:0\n", b"0:0;0:0\n", b"\n\n\n",
     b"settled 1\n",
 ];
 
@@ -90,32 +81,4 @@ pub fn other_ends(text: &[u8]) -> impl Iterator<Item = Vec<u8>> {
     [&b"\r\n"[..], b"\r", b"\n\r", b"\0", b"\n\n"]
         .map(|end| lines.join(end))
         .into_iter()
-}
-
-#[cfg(test)]
-mod tests {
-    use super::*;
-
-    #[test]
-    fn every_place_is_damaged() {
-        let text = b"ab\nc\n";
-        let all = 0..text.len();
-        assert!(changes(text, all.clone()).any(|text| text == b"ab\nc\0"));
-        assert!(changes(text, all.clone()).any(|text| text == b";b\nc\n"));
-        assert!(shifts(text, all.clone()).any(|text| text == b"ab\nc"));
-        assert!(shifts(text, all).any(|text| text == b"aab\nc\n"));
-        assert_eq!(cuts(text).count(), 5);
-        let moved: Vec<_> = moved_lines(text).collect();
-        for wanted in [&b"c\nab\n"[..], b"c\n", b"ab\nab\nc\n", b"\nc\n"] {
-            assert!(moved.iter().any(|text| text == wanted));
-        }
-        assert!(other_ends(text).any(|text| text == b"ab\r\nc\r\n"));
-    }
-
-    #[test]
-    fn no_byte_is_listed_twice() {
-        for (index, byte) in BYTES.iter().enumerate() {
-            assert!(!BYTES[..index].contains(byte));
-        }
-    }
 }

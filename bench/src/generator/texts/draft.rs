@@ -50,29 +50,3 @@ impl Draft {
 pub fn value(lower: i64, upper: i64) -> Field {
     format!("{lower}:{upper}").into_bytes()
 }
-
-#[cfg(test)]
-mod tests {
-    use super::*;
-    use crate::samples::sweeps::program_input;
-    use crate::samples::texts::INPUT;
-
-    #[test]
-    fn the_program_s_input_is_written() {
-        let names = vec![b"V1".to_vec(), b"V2".to_vec()];
-        let draft = Draft::new(names, &program_input([0; 4]));
-        assert_eq!(draft.written(), INPUT);
-    }
-
-    #[test]
-    fn eleven_digits_are_not_writable() {
-        let mut case = program_input([0; 4]);
-        case.right_side[3] = GREATEST as i64;
-        assert!(is_writable(&case));
-        case.right_side[3] += 1;
-        assert!(!is_writable(&case));
-        case.right_side[3] = 0;
-        case.n = 3;
-        assert!(!is_writable(&case));
-    }
-}

@@ -111,18 +111,3 @@ impl<C: Iterator<Item = Case>> Texts<C> {
         case
     }
 }
-
-#[cfg(test)]
-mod tests {
-    use super::*;
-    use crate::comparison::texts::compare_texts;
-    use crate::reference::report;
-
-    #[test]
-    fn random_texts_reach_everything() {
-        let texts = random_texts(5).take(250_000);
-        let tally = compare_texts(texts, |text, out| report(text, out)).unwrap();
-        let unreached = tally.unreached();
-        assert!(unreached.is_empty(), "{unreached:?} {}", tally.report());
-    }
-}

@@ -6,7 +6,7 @@ use super::{damage, limits, names, sheets, slips, slow};
 use crate::case::Case;
 use crate::generator::edge_cases;
 use crate::reference::{Call, System, MOST_EQUATIONS, SHEET_LENGTH};
-use crate::samples::texts::INPUT;
+use crate::samples::INPUT;
 use crate::text_case::TextCase;
 use std::iter;
 
@@ -172,23 +172,4 @@ fn faulty_lengths() -> impl Iterator<Item = TextCase> {
             out: sheets::content(index, length),
         })
     })
-}
-
-#[cfg(test)]
-mod tests {
-    use super::*;
-    use crate::comparison::texts::compare_texts;
-    use crate::reference::report;
-
-    #[test]
-    fn edge_texts_reach_everything() {
-        let tally = compare_texts(edge_texts(), |text, out| report(text, out)).unwrap();
-        let unreached = tally.unreached();
-        assert!(unreached.is_empty(), "{unreached:?} {}", tally.report());
-    }
-
-    #[test]
-    fn the_longest_text_is_as_long_as_a_valid_one_can_be() {
-        assert_eq!(longest().written().len(), 25_888);
-    }
 }

@@ -3,18 +3,13 @@
 use super::draft::Draft;
 use crate::case::Case;
 use crate::reference::{System, MOST_BYTES};
-use crate::samples::texts::INPUT;
+use crate::samples::INPUT;
 
 /// Lengths around the limit; cut to 16 bits, the far ones would pass for short.
+#[rustfmt::skip]
 const LENGTHS: [usize; 8] = [
-    MOST_BYTES - 1,
-    MOST_BYTES,
-    MOST_BYTES + 1,
-    MOST_BYTES + 2,
-    MOST_BYTES + INPUT.len(),
-    MOST_BYTES + 4_096,
-    2 * MOST_BYTES,
-    3 * MOST_BYTES + INPUT.len(),
+    MOST_BYTES - 1, MOST_BYTES, MOST_BYTES + 1, MOST_BYTES + 2, MOST_BYTES + INPUT.len(),
+    MOST_BYTES + 4_096, 2 * MOST_BYTES, 3 * MOST_BYTES + INPUT.len(),
 ];
 
 /// What the rest of a long text is filled with.
@@ -56,25 +51,4 @@ pub fn many_vats() -> impl Iterator<Item = Vec<u8>> {
 pub fn vats(n: usize) -> Draft {
     let names = (1..=n).map(|i| format!("v{i}").into_bytes()).collect();
     Draft::new(names, &Case::new(&System::noughts(n)))
-}
-
-#[cfg(test)]
-mod tests {
-    use super::*;
-    use crate::reference::sheet;
-
-    #[test]
-    fn no_line_is_judged_above_the_limit() {
-        for text in long_texts() {
-            let too_long = sheet(&text) == b"refused 8 0\n";
-            assert_eq!(too_long, text.len() > MOST_BYTES);
-        }
-    }
-
-    #[test]
-    fn up_to_32_vats_are_settled() {
-        let settled = many_vats().filter(|text| sheet(text).ends_with(b"settled 1\n"));
-        assert_eq!(settled.count(), 6);
-        assert!(many_vats().any(|text| sheet(&text) == b"refused 8 1\n"));
-    }
 }

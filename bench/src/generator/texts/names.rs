@@ -69,36 +69,3 @@ fn by_chance(random: &mut Random, longest: usize) -> Field {
     let length = random.between(1, longest as i64);
     (0..length).map(|_| random.pick(BYTES)).collect()
 }
-
-#[cfg(test)]
-mod tests {
-    use super::*;
-
-    fn assert_good(names: &[Field]) {
-        for (index, name) in names.iter().enumerate() {
-            assert!((1..=LONGEST_NAME).contains(&name.len()));
-            assert!(name.iter().all(|byte| BYTES.contains(byte)));
-            assert!(!names[..index].contains(name));
-        }
-    }
-
-    #[test]
-    fn names_are_as_described() {
-        let mut random = Random::new(1);
-        for n in [1, 2, 31, 32] {
-            for kind in 0..KINDS {
-                assert_good(&listed(kind, n));
-                assert_eq!(listed(kind, n).len(), n);
-            }
-            (0..50).for_each(|_| assert_good(&drawn(&mut random, n)));
-        }
-    }
-
-    #[test]
-    fn names_of_every_length_are_listed() {
-        let names: Vec<_> = (0..KINDS).flat_map(|kind| listed(kind, 32)).collect();
-        for length in 1..=LONGEST_NAME {
-            assert!(names.iter().any(|name| name.len() == length), "{length}");
-        }
-    }
-}

@@ -4,20 +4,9 @@ use crate::generator::Random;
 use crate::reference::SHEET_LENGTH;
 
 /// Lengths that are refused; cut to 16 bits, the last would pass.
+#[rustfmt::skip]
 pub const FAULTY_LENGTHS: [usize; 14] = [
-    0,
-    1,
-    12,
-    50,
-    1_023,
-    1_024,
-    2_046,
-    2_047,
-    2_049,
-    2_050,
-    4_095,
-    4_096,
-    8_192,
+    0, 1, 12, 50, 1_023, 1_024, 2_046, 2_047, 2_049, 2_050, 4_095, 4_096, 8_192,
     65_536 + SHEET_LENGTH,
 ];
 

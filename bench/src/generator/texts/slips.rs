@@ -125,31 +125,3 @@ pub fn pairs(draft: &Draft) -> impl Iterator<Item = Draft> + '_ {
         })
     })
 }
-
-#[cfg(test)]
-mod tests {
-    use super::super::limits::vats;
-    use super::*;
-    use crate::reference::sheet;
-
-    #[test]
-    fn ends_wait_for_a_later_line() {
-        let sheets: Vec<_> = pairs(&vats(2))
-            .map(|draft| sheet(&draft.written()))
-            .collect();
-        for line in 1..=4 {
-            let refused = format!("refused 8 {line}\n").into_bytes();
-            assert!(sheets.contains(&refused), "{line}");
-        }
-        assert!(sheets.iter().all(|sheet| sheet.starts_with(b"refused 8 ")));
-    }
-
-    #[test]
-    fn faulty_values_are_faulty() {
-        let one = vats(1);
-        let values = fields(&one, |line, _| line == 2);
-        for draft in values {
-            assert_eq!(sheet(&draft.written()), b"refused 8 3\n", "{draft:?}");
-        }
-    }
-}

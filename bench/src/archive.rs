@@ -1,0 +1,74 @@
+//! The archive under test, by its C functions: memory between guards, wrong
+//! lengths and all.
+
+use crate::case::Slices;
+use crate::reference::{Call, Interval, Operation, Outcome};
+use crate::side::{Flat, Side};
+use kifwaleb::raw::{self, KifwalebOutcome};
+
+pub struct Archive;
+
+impl Side for Archive {
+    fn step(&self, operation: Operation, a: Interval, b: Interval) -> Flat {
+        let function = match operation {
+            Operation::Sum => raw::kifwaleb_sum,
+            Operation::Difference => raw::kifwaleb_difference,
+            Operation::Product => raw::kifwaleb_product,
+            Operation::Quotient => raw::kifwaleb_quotient,
+        };
+        // SAFETY: plain numbers, of which any are accepted.
+        let given = unsafe { function(a.lo, a.hi, b.lo, b.hi) };
+        (given.number, given.place, given.lo, given.hi)
+    }
+
+    fn eliminate(&self, call: Call, n: usize, lent: Slices) -> Outcome {
+        match call {
+            Call::Eliminate => lend!(kifwaleb_eliminate, n, lent),
+            Call::EliminateBalance => lend!(kifwaleb_eliminate_balance, n, lent),
+        }
+    }
+
+    fn sweep(&self, n: usize, lent: Slices, allowed: usize) -> Outcome {
+        lend!(kifwaleb_sweep, n, lent, allowed)
+    }
+
+    fn report(&self, text: &mut [u8], out: &mut [u8]) -> Outcome {
+        // SAFETY: as for `lend`.
+        let given = unsafe {
+            raw::kifwaleb_report(text.as_mut_ptr(), text.len(), out.as_mut_ptr(), out.len())
+        };
+        given.into()
+    }
+}
+
+/// Lends three slices: n first, then each slice's pointer and length, then
+/// whatever else the function takes.
+macro_rules! lend {
+    ($function:ident, $n:expr, $lent:expr $(, $further:expr)?) => {{
+        let Slices { matrix, right_side, bounds } = $lent;
+        // The pointers to const are taken from changeable slices, so that a
+        // change the archive must not make would be seen and nothing else.
+        // SAFETY: each pointer comes with the length of its slice, the slices
+        // do not overlap, and the functions accept any numbers.
+        let given = unsafe {
+            raw::$function(
+                $n,
+                matrix.as_mut_ptr(),
+                matrix.len(),
+                right_side.as_mut_ptr(),
+                right_side.len(),
+                bounds.as_mut_ptr(),
+                bounds.len(),
+                $($further,)?
+            )
+        };
+        given.into()
+    }};
+}
+use lend;
+
+impl From<KifwalebOutcome> for Outcome {
+    fn from(given: KifwalebOutcome) -> Outcome {
+        Outcome::counted(given.number, given.place, given.count)
+    }
+}

@@ -1,0 +1,186 @@
+//! Writes a file of the generator's cases, edge cases and random ones, in the
+//! form of the stored cases, and the lines that the program 'vectors' must print
+//! for them. Of cases that end alike only some are taken, and most have few
+//! vats: the program takes in so many bytes and no more.
+
+use kifwaleb_bench::case::Case;
+use kifwaleb_bench::case_file::{entries, lines, written, Entry, READ_LENGTHS};
+use kifwaleb_bench::generator::{
+    edge_cases, edge_lists, edge_pairs, edge_texts, random_cases_up_to, random_lists_up_to,
+    random_pairs, random_texts_up_to, Random,
+};
+use kifwaleb_bench::reference::{read_text, Call, Interval, Operation, MOST_BYTES, MOST_EQUATIONS};
+use kifwaleb_bench::side::Reference;
+use kifwaleb_bench::sweep_list::SweepList;
+use kifwaleb_bench::text_case::TextCase;
+use std::collections::HashMap;
+use std::ops::RangeInclusive;
+use std::path::PathBuf;
+use std::{env, fs, io};
+
+/// As many bytes as the program takes in.
+const MOST_CASE_BYTES: usize = 655_360;
+
+const SEED: u64 = 1;
+const FEW_VATS: usize = 4;
+const SHORT: usize = 80;
+const RANDOM: usize = 40_000;
+
+fn main() -> io::Result<()> {
+    let directory = env::args_os().nth(1).map(PathBuf::from);
+    let directory = directory.expect("usage: generated DIRECTORY");
+    let mut all = Vec::new();
+    for operation in Operation::ALL {
+        all.extend(steps(operation));
+    }
+    for call in Call::ALL {
+        all.extend(eliminations(call));
+    }
+    all.extend(sweeps());
+    all.extend(texts());
+    let file = written(&all);
+    assert!(
+        file.len() <= MOST_CASE_BYTES,
+        "{} bytes are too many",
+        file.len()
+    );
+    assert_eq!(entries(&file), all);
+    let lines = lines(&all, &Reference);
+    fs::create_dir_all(directory.join("data"))?;
+    fs::write(directory.join("data/cases"), &file)?;
+    fs::write(directory.join("stdout"), lines.join("\n") + "\n")?;
+    println!("{} cases, {} bytes", lines.len(), file.len());
+    Ok(())
+}
+
+/// Of the cases, each as its entries, so many of each kind, in so many bytes.
+/// They are taken from everywhere in the row.
+fn chosen(cases: Vec<Vec<Entry>>, of_a_kind: usize, bytes: usize) -> Vec<Entry> {
+    let mut random = Random::new(SEED);
+    let mut places: Vec<_> = (0..cases.len()).collect();
+    places.sort_by_cached_key(|_| random.bits());
+    let mut kinds: HashMap<String, usize> = HashMap::new();
+    let mut taken = 0;
+    places.retain(|place| {
+        let count = kinds.entry(kind(&cases[*place])).or_default();
+        let size = written(&cases[*place]).len();
+        let wanted = *count < of_a_kind && taken + size <= bytes;
+        *count += usize::from(wanted);
+        taken += if wanted { size } else { 0 };
+        wanted
+    });
+    places.sort_unstable();
+    places
+        .into_iter()
+        .flat_map(|place| cases[place].clone())
+        .collect()
+}
+
+/// What tells one case from another: how its calls end, and how many vats or
+/// which signs it has.
+fn kind(entries: &[Entry]) -> String {
+    let lines = lines(entries, &Reference);
+    match &entries[0] {
+        Entry::Text(_) => {
+            let sheet = lines[2].trim_end_matches('|').rsplit(['|', ':']);
+            sheet.take(1).collect()
+        }
+        first => {
+            let ends = lines.iter().map(|line| ending(line));
+            format!("{} {}", ends.collect::<String>(), size(first))
+        }
+    }
+}
+
+/// Number and place; of a sweep call whether its count is above 1 instead, since
+/// a list of calls has many ways to end.
+fn ending(line: &str) -> String {
+    let words: Vec<_> = line.split(' ').collect();
+    match words[1] {
+        "S" => format!("{}{}", words[2], words[4] > "1"),
+        _ => words[1..4].join(" "),
+    }
+}
+
+fn size(entry: &Entry) -> String {
+    let signs = |i: &Interval| (i.lo.signum(), i.hi.signum());
+    match entry {
+        Entry::Step(_, a, b) => format!("{:?} {:?}", signs(a), signs(b)),
+        Entry::System(lent) => lent.n.to_string(),
+        _ => String::new(),
+    }
+}
+
+fn steps(operation: Operation) -> Vec<Entry> {
+    let edge = edge_pairs().step_by(17).take(RANDOM * 8).step_by(2);
+    let pairs = edge.chain(random_pairs(operation, SEED).take(RANDOM));
+    let step = |(a, b): (Interval, Interval)| vec![Entry::Step(operation, a, b)];
+    chosen(pairs.map(step).collect(), 6, 28_000)
+}
+
+fn has_few_vats(lent: &Case) -> bool {
+    let numbers = lent.matrix.len() + lent.right_side.len() + lent.bounds.len();
+    numbers <= 2 * FEW_VATS * (FEW_VATS + 2)
+}
+
+/// As many vats as can be; the first of these are the documents' samples.
+fn has_most_vats(lent: &Case) -> bool {
+    lent.n == MOST_EQUATIONS && lent.matrix.len() == 2 * lent.n * lent.n
+}
+
+fn eliminations(call: Call) -> Vec<Entry> {
+    let edge = edge_cases(call).filter(has_few_vats).step_by(5);
+    let random = random_cases_up_to(FEW_VATS, call, SEED).take(RANDOM);
+    let cases = edge.chain(random.filter(has_few_vats));
+    let entries = |lent| vec![Entry::System(lent), Entry::Eliminate(call)];
+    let mut all = chosen(cases.map(entries).collect(), 5, 80_000);
+    let large = edge_cases(call).filter(has_most_vats).take(1);
+    all.extend(large.flat_map(entries));
+    all
+}
+
+fn sweeps() -> Vec<Entry> {
+    let edge = || edge_lists().filter(|list| has_few_vats(&list.lent));
+    let random = random_lists_up_to(FEW_VATS, SEED).take(RANDOM / 2);
+    let random = random.filter(|list| has_few_vats(&list.lent));
+    let lists = edge().step_by(3).chain(random);
+    let entries = |list: SweepList| -> Vec<_> {
+        let calls = list.allowed.into_iter().map(Entry::Sweep);
+        let system = [Entry::System(list.lent)];
+        system.into_iter().chain(calls).collect()
+    };
+    let mut all = chosen(lists.map(entries).collect(), 2, 80_000);
+    let large = edge_lists().filter(|list| has_most_vats(&list.lent));
+    all.extend(large.take(1).flat_map(entries));
+    all
+}
+
+fn texts() -> Vec<Entry> {
+    let some = |lengths: RangeInclusive<usize>| {
+        edge_texts().filter(move |case| lengths.contains(&case.text.len()))
+    };
+    let random = random_texts_up_to(FEW_VATS, SEED).take(RANDOM / 2);
+    let random = random.filter(|case| case.text.len() <= SHORT);
+    let short = some(0..=SHORT).chain(random).map(text_calls);
+    let (faulty, good): (Vec<_>, _) = short.partition(|calls| kind(calls).starts_with("refused 8"));
+    let mut all = chosen(faulty, 400, 88_000);
+    all.extend(chosen(good, 8, 20_000));
+    // 32 and 33 vats without shares, and the greatest length that is judged.
+    let great = some(4_300..=5_000).take(4);
+    let long = some(MOST_BYTES..=MOST_BYTES + 1).step_by(6).take(2);
+    all.extend(great.chain(long).flat_map(text_calls));
+    all
+}
+
+fn text_calls(case: TextCase) -> Vec<Entry> {
+    let [matrix, right_side] = READ_LENGTHS;
+    let n = read_text(&case.text).map_or(1, |read| read.n);
+    let vat = [n, 0, n + 1, 1][case.text.len() % 4];
+    vec![
+        Entry::Text(case.text),
+        Entry::Read(matrix, right_side),
+        Entry::Name(vat),
+        Entry::Print(case.out.len().min(4_096)),
+        Entry::Report(case.out.len().min(4_096)),
+    ]
+}

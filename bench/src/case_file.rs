@@ -1,0 +1,335 @@
+//! Files of cases for the program `vectors`, and the lines that it must print
+//! for them. Its `main.rt` describes the form.
+
+use crate::case::{Case, Slices};
+use crate::reference::{self, Call, Interval, Operation, Outcome, MOST_EQUATIONS};
+use crate::side::Side;
+use crate::text_case::TextCase;
+use std::fmt::Write;
+use std::str::{self, FromStr};
+
+/// One entry of a file. A case is a call; systems and texts are what the calls
+/// after them are lent, each with the box as the one before left it.
+#[derive(Clone, Debug, PartialEq, Eq)]
+pub enum Entry {
+    Remark(String),
+    Step(Operation, Interval, Interval),
+    System(Case),
+    Eliminate(Call),
+    /// The sweeps allowed.
+    Sweep(usize),
+    Text(Vec<u8>),
+    /// The numbers of the text, into slices of these lengths.
+    Read(usize, usize),
+    /// The name of this vat.
+    Name(usize),
+    /// The sheet or the refusal, into a slice of this length.
+    Report(usize),
+    /// What the program prints, into a slice of this length.
+    Print(usize),
+}
+
+/// The lengths that the slices lent to a reading call must have.
+pub const READ_LENGTHS: [usize; 2] = [2_048, 64];
+
+/// What the program lends as a sheet: no byte of a sheet.
+const LENT_BYTE: u8 = b'.';
+
+const STEPS: [(char, Operation); 4] = [
+    ('+', Operation::Sum),
+    ('-', Operation::Difference),
+    ('*', Operation::Product),
+    ('/', Operation::Quotient),
+];
+
+/// What of a file was not read yet.
+struct Rest<'a>(&'a [u8]);
+
+impl<'a> Rest<'a> {
+    fn take(&mut self, length: usize) -> &'a [u8] {
+        let (taken, rest) = self.0.split_at(length);
+        self.0 = rest;
+        taken
+    }
+
+    /// Up to a byte that is sought, or all.
+    fn until(&mut self, sought: impl Fn(&u8) -> bool) -> &'a str {
+        let end = self.0.iter().position(sought).unwrap_or(self.0.len());
+        str::from_utf8(self.take(end)).expect("only texts have bytes that are no characters")
+    }
+
+    /// What stands between blanks; nothing at the end.
+    fn word(&mut self) -> &'a str {
+        self.until(|byte| !b" \n".contains(byte));
+        self.until(|byte| b" \n".contains(byte))
+    }
+
+    fn number<N: FromStr>(&mut self) -> N {
+        let word = self.word();
+        let number = word.parse().ok();
+        number.unwrap_or_else(|| panic!("'{word}' is no number of a case"))
+    }
+
+    fn numbers(&mut self, count: usize) -> Vec<i64> {
+        (0..count).map(|_| self.number()).collect()
+    }
+
+    fn interval(&mut self) -> Interval {
+        Interval::new(self.number(), self.number())
+    }
+
+    fn system(&mut self) -> Case {
+        let n = self.number();
+        let [matrix, right_side, bounds] = [(); 3].map(|_| self.number());
+        Case {
+            n,
+            matrix: self.numbers(matrix),
+            right_side: self.numbers(right_side),
+            bounds: self.numbers(bounds),
+        }
+    }
+
+    fn text(&mut self) -> Vec<u8> {
+        let length: usize = self.number();
+        self.take(1);
+        self.take(length).to_vec()
+    }
+
+    fn call(&mut self) -> Entry {
+        let letter = self.word();
+        let step = STEPS.iter().find(|(sign, _)| letter.starts_with(*sign));
+        if let Some((_, operation)) = step {
+            return Entry::Step(*operation, self.interval(), self.interval());
+        }
+        match letter {
+            "A" => Entry::Eliminate(Call::Eliminate),
+            "B" => Entry::Eliminate(Call::EliminateBalance),
+            "S" => Entry::Sweep(self.number()),
+            "R" => Entry::Read(self.number(), self.number()),
+            "N" => Entry::Name(self.number()),
+            "W" => Entry::Report(self.number()),
+            "P" => Entry::Print(self.number()),
+            _ => panic!("there is no call '{letter}'"),
+        }
+    }
+}
+
+/// The entries of a file. Panics if it is not in the form.
+pub fn entries(file: &[u8]) -> Vec<Entry> {
+    let mut rest = Rest(file);
+    let mut entries = Vec::new();
+    loop {
+        entries.push(match rest.word() {
+            "" => return entries,
+            "#" => Entry::Remark(rest.until(|byte| *byte == b'\n').trim_start().to_string()),
+            "M" => Entry::System(rest.system()),
+            "T" => Entry::Text(rest.text()),
+            _number => rest.call(),
+        });
+    }
+}
+
+/// The file of these entries, its cases numbered anew from 1.
+pub fn written(entries: &[Entry]) -> Vec<u8> {
+    let mut file = Vec::new();
+    let mut cases = 0;
+    for entry in entries {
+        match entry {
+            Entry::Remark(words) => file.extend(format!("# {words}\n").bytes()),
+            Entry::System(lent) => file.extend(system_written(lent).bytes()),
+            Entry::Text(text) => {
+                file.extend(format!("T {}\n", text.len()).bytes());
+                file.extend(text);
+                file.push(b'\n');
+            }
+            call => {
+                cases += 1;
+                let line = format!("{cases} {}{}\n", letter(call), arguments(call));
+                file.extend(line.bytes());
+            }
+        }
+    }
+    file
+}
+
+fn letter(call: &Entry) -> char {
+    match call {
+        Entry::Step(operation, ..) => {
+            let step = STEPS.iter().find(|(_, step)| step == operation);
+            step.expect("every step has a sign").0
+        }
+        Entry::Eliminate(Call::Eliminate) => 'A',
+        Entry::Eliminate(Call::EliminateBalance) => 'B',
+        Entry::Sweep(_) => 'S',
+        Entry::Read(..) => 'R',
+        Entry::Name(_) => 'N',
+        Entry::Report(_) => 'W',
+        Entry::Print(_) => 'P',
+        other => panic!("{other:?} is no call"),
+    }
+}
+
+fn arguments(call: &Entry) -> String {
+    match call {
+        Entry::Step(_, a, b) => format!(" {} {} {} {}", a.lo, a.hi, b.lo, b.hi),
+        Entry::Read(matrix, right_side) => format!(" {matrix} {right_side}"),
+        Entry::Sweep(number)
+        | Entry::Name(number)
+        | Entry::Report(number)
+        | Entry::Print(number) => format!(" {number}"),
+        _ => String::new(),
+    }
+}
+
+/// A row of the matrix takes one line.
+fn system_written(lent: &Case) -> String {
+    let lengths = [&lent.matrix, &lent.right_side, &lent.bounds].map(Vec::len);
+    let [matrix, right_side, bounds] = lengths;
+    let mut text = format!("M {} {matrix} {right_side} {bounds}\n", lent.n);
+    let rows = lent.matrix.chunks(2 * lent.n.clamp(1, MOST_EQUATIONS));
+    for row in rows.chain([&lent.right_side[..], &lent.bounds]) {
+        text += joined(row).trim_start();
+        text.push('\n');
+    }
+    text
+}
+
+/// Numbers, each with a blank before it.
+fn joined(numbers: &[i64]) -> String {
+    let mut text = String::new();
+    for number in numbers {
+        let _ = write!(text, " {number}");
+    }
+    text
+}
+
+/// The lines that must be printed for these entries, as a side answers them.
+/// Names and numbers of texts are always the reference's: the archive has no
+/// call for them.
+pub fn lines(entries: &[Entry], side: &impl Side) -> Vec<String> {
+    let mut lent = None;
+    let mut text = Vec::new();
+    let mut lines = Vec::new();
+    for entry in entries {
+        let answer = match entry {
+            Entry::Remark(_) => continue,
+            Entry::System(system) => {
+                lent = Some(system.clone());
+                continue;
+            }
+            Entry::Text(bytes) => {
+                text.clone_from(bytes);
+                continue;
+            }
+            Entry::Step(operation, a, b) => match side.step(*operation, *a, *b) {
+                (0, 0, lo, hi) => format!(" 0 0 {lo} {hi}"),
+                (number, place, ..) => format!(" {number} {place}"),
+            },
+            Entry::Eliminate(_) | Entry::Sweep(_) => {
+                on_system(entry, lent.as_mut().expect("a system stands before"), side)
+            }
+            call => on_text(call, &text, side),
+        };
+        lines.push(format!("{} {}{answer}", lines.len() + 1, letter(entry)));
+    }
+    lines
+}
+
+/// The call's outcome, and all that the box holds after it.
+fn on_system(call: &Entry, lent: &mut Case, side: &impl Side) -> String {
+    let answer = lent.answer(|n, slices: Slices| match call {
+        Entry::Eliminate(call) => side.eliminate(*call, n, slices),
+        Entry::Sweep(allowed) => side.sweep(n, slices, *allowed),
+        other => panic!("{other:?} is no call on a system"),
+    });
+    lent.bounds = answer.bounds.inside().to_vec();
+    let Outcome {
+        number,
+        place,
+        count,
+    } = answer.outcome;
+    let counted = match call {
+        Entry::Sweep(_) => format!(" {count}"),
+        _ => String::new(),
+    };
+    format!(" {number} {place}{counted}{}", joined(&lent.bounds))
+}
+
+fn on_text(call: &Entry, text: &[u8], side: &impl Side) -> String {
+    match call {
+        Entry::Read(matrix, right_side) => read(text, [*matrix, *right_side]),
+        Entry::Name(vat) => {
+            let name = String::from_utf8_lossy(&text[reference::name_range(text, *vat)]);
+            format!(" {} :{name}", name.len())
+        }
+        Entry::Report(length) => sheet(text, *length, |text, out| side.report(text, out)),
+        Entry::Print(length) => sheet(text, *length, |text, out| reference::print(text, out)),
+        other => panic!("{other:?} is no call on a text"),
+    }
+}
+
+/// What the sheet holds is given up to the last byte that is not as lent.
+fn sheet(text: &[u8], length: usize, call: impl FnOnce(&mut [u8], &mut [u8]) -> Outcome) -> String {
+    let out = vec![LENT_BYTE; length];
+    let text = text.to_vec();
+    let answer = TextCase { text, out }.answer(call);
+    let out = answer.out.inside();
+    let end = out.iter().rposition(|byte| *byte != LENT_BYTE);
+    let sheet = String::from_utf8_lossy(&out[..end.map_or(0, |end| end + 1)]);
+    let outcome = answer.outcome;
+    let (number, place, count) = (outcome.number, outcome.place, outcome.count);
+    format!(" {number} {place} {count} :{}", sheet.replace('\n', "|"))
+}
+
+/// A faulty text comes first, then the lengths. What the slices hold is given up
+/// to the last number that is not as lent.
+fn read(text: &[u8], lengths: [usize; 2]) -> String {
+    let refused = |outcome: Outcome| format!(" {} {} 0 : :", outcome.number, outcome.place);
+    let wrong = (0..2).find(|slice| lengths[*slice] != READ_LENGTHS[*slice]);
+    match (reference::read_text(text), wrong) {
+        (Err(fault), _) => refused(fault.outcome()),
+        (Ok(_), Some(slice)) => refused(Outcome::new(2, slice as u64 + 1)),
+        (Ok(read), None) => {
+            let (matrix, right_side) = (joined(&read.matrix), joined(&read.right_side));
+            format!(" 0 0 {} :{matrix} :{right_side}", read.n)
+        }
+    }
+}
+
+#[cfg(test)]
+mod tests {
+    use super::*;
+    use crate::archive::Archive;
+    use crate::side::Reference;
+
+    const STORED: &[u8] = include_bytes!("../../crates/vectors/data/cases");
+    const PRINTED: &str = include_str!("../../crates/vectors/stdout");
+
+    #[test]
+    fn a_file_is_read_as_it_was_written() {
+        let stored = entries(STORED);
+        assert_eq!(written(&stored), STORED);
+        assert_eq!(entries(&written(&stored)), stored);
+    }
+
+    #[test]
+    fn the_stored_lines_are_the_reference_s() {
+        let lines = lines(&entries(STORED), &Reference);
+        assert!(lines.iter().map(String::as_str).eq(PRINTED.lines()));
+    }
+
+    /// Without the calls that the archive does not have.
+    #[test]
+    fn the_archive_gives_the_stored_lines() {
+        let mut tried = 0;
+        for (given, stored) in lines(&entries(STORED), &Archive)
+            .iter()
+            .zip(PRINTED.lines())
+        {
+            assert_eq!(given, stored);
+            let letter = stored.split(' ').nth(1);
+            tried += usize::from(!matches!(letter, Some("R" | "N")));
+        }
+        assert!(tried > 500, "only {tried} tried");
+    }
+}

@@ -1,0 +1,141 @@
+//! What the calls can reach, told more finely than by their outcomes.
+
+use super::tally::Goal;
+use crate::reference::{Call, Flaw, Operation, Phase, Stop, TextPart, MOST_EQUATIONS};
+
+/// Only a quotient has a divisor.
+pub fn of_step(operation: Operation) -> Vec<Goal> {
+    let mut goals = vec![
+        Goal::once("0"),
+        Goal::at("3 for operand", 0..=1),
+        Goal::once("6"),
+    ];
+    if operation == Operation::Quotient {
+        goals.push(Goal::once("5"));
+    }
+    goals
+}
+
+pub fn of_elimination(call: Call) -> Vec<Goal> {
+    let mut goals = vec![Goal::at("0 for n", 1..=MOST_EQUATIONS)];
+    goals.extend(sizes_and_lengths());
+    goals.extend(refused_systems(call));
+    goals
+}
+
+fn sizes_and_lengths() -> [Goal; 2] {
+    [Goal::once("1"), Goal::at("2 at place", 1..=3)]
+}
+
+fn faulty_ends() -> [Goal; 2] {
+    ["3 in the matrix", "3 in the right side"].map(Goal::once)
+}
+
+/// Row 1 is never changed. The numerator of the last row is f(n), which was
+/// tested before.
+fn refused_systems(call: Call) -> Vec<Goal> {
+    let mut goals = faulty_ends().to_vec();
+    goals.push(Goal::at("5 at pivot", 1..=MOST_EQUATIONS));
+    for phase in Phase::ALL {
+        let rows = match phase {
+            Phase::Forming if call == Call::Eliminate => continue,
+            Phase::Forming | Phase::Quotient => 1..=MOST_EQUATIONS,
+            Phase::Factor | Phase::Entry | Phase::RightSide => 2..=MOST_EQUATIONS,
+            Phase::Numerator => 1..=MOST_EQUATIONS - 1,
+        };
+        goals.push(Goal::at(out_of_range(phase), rows));
+    }
+    goals
+}
+
+/// A 6 itself does not tell its kind.
+fn out_of_range(phase: Phase) -> &'static str {
+    match phase {
+        Phase::Forming => "6 (forming) in row",
+        Phase::Factor => "6 (factor) in row",
+        Phase::Entry => "6 (entry) in row",
+        Phase::RightSide => "6 (right side) in row",
+        Phase::Numerator => "6 (numerator) in row",
+        Phase::Quotient => "6 (quotient) in row",
+    }
+}
+
+/// The goal that a refusal of n equations reaches, and its place.
+pub fn stopped(n: usize, stop: Stop) -> (&'static str, usize) {
+    match stop {
+        Stop::Size => ("1", 0),
+        Stop::Length(slice) => ("2 at place", slice.place() as usize),
+        Stop::Ends { position } if position < n * n => ("3 in the matrix", 0),
+        Stop::Ends { position } if position < n * n + n => ("3 in the right side", 0),
+        Stop::Ends { .. } => ("3 in the box", 0),
+        Stop::Pivot { k } => ("5 at pivot", k),
+        Stop::OutOfRange { phase, row } => (out_of_range(phase), row),
+    }
+}
+
+pub fn of_sweep() -> Vec<Goal> {
+    let sizes = || 1..=MOST_EQUATIONS;
+    let mut goals = vec![
+        Goal::at("0 for n", sizes()),
+        Goal::at("9 for n", sizes()),
+        Goal::at("7 at vat", sizes()),
+    ];
+    goals.extend(sizes_and_lengths());
+    goals.extend(faulty_ends());
+    let single = [
+        "3 in the box",
+        "4 for no sweeps",
+        "4 for too many sweeps",
+        "0 with a count above 1",
+        "0 by the last allowed sweep, above 1",
+        "9 with a count above 1",
+        "7 with a count above 0",
+        "7 with a count above 1",
+        "a count of 10,000",
+        "0, 9 or 7 on a box that the list has written",
+        "0, 9 or 7 after a refusal in the list",
+        "0 or 9 with a known solution in the box",
+    ];
+    goals.extend(single.map(Goal::once));
+    goals
+}
+
+/// The box of one vat is settled at once, a surplus line is not missing, and the
+/// last faulty line is one too many after 32 vats. No sheet says 7: the box that
+/// elimination writes holds a solution.
+pub fn of_report() -> Vec<Goal> {
+    let mut goals = vec![
+        Goal::at("settled for n", 1..=MOST_EQUATIONS),
+        Goal::at("spent for n", 2..=MOST_EQUATIONS),
+        Goal::once("settled with a count above 1"),
+        Goal::once("settled by the last allowed sweep"),
+        Goal::once("2 for the length of the sheet"),
+        Goal::once("8 for a text that is too long"),
+        Goal::at("8 at line", 1..=MOST_EQUATIONS + 3),
+    ];
+    for part in [TextPart::Names, TextPart::Shares, TextPart::Deliveries] {
+        let flaws = [Flaw::Missing, Flaw::Unended, Flaw::IllFormed];
+        goals.extend(flaws.map(|flaw| Goal::once(faulty_line(part, flaw))));
+    }
+    let flaws = [Flaw::Unended, Flaw::IllFormed];
+    goals.extend(flaws.map(|flaw| Goal::once(faulty_line(TextPart::Surplus, flaw))));
+    goals.extend(refused_systems(Call::EliminateBalance));
+    goals
+}
+
+pub fn faulty_line(part: TextPart, flaw: Flaw) -> &'static str {
+    match (part, flaw) {
+        (TextPart::Names, Flaw::Missing) => "8 for a names line that is missing",
+        (TextPart::Names, Flaw::Unended) => "8 for a names line that is unended",
+        (TextPart::Names, Flaw::IllFormed) => "8 for a names line that is ill-formed",
+        (TextPart::Shares, Flaw::Missing) => "8 for a line of shares that is missing",
+        (TextPart::Shares, Flaw::Unended) => "8 for a line of shares that is unended",
+        (TextPart::Shares, Flaw::IllFormed) => "8 for a line of shares that is ill-formed",
+        (TextPart::Deliveries, Flaw::Missing) => "8 for a line of deliveries that is missing",
+        (TextPart::Deliveries, Flaw::Unended) => "8 for a line of deliveries that is unended",
+        (TextPart::Deliveries, Flaw::IllFormed) => "8 for a line of deliveries that is ill-formed",
+        (TextPart::Surplus, Flaw::Missing) => "8 for a surplus line that is missing",
+        (TextPart::Surplus, Flaw::Unended) => "8 for a surplus line that is unended",
+        (TextPart::Surplus, Flaw::IllFormed) => "8 for a surplus line that is ill-formed",
+    }
+}

@@ -1,0 +1,241 @@
+//! Whatever a side answers otherwise is noticed, and what was not reached is
+//! named.
+
+use super::*;
+use crate::case::{Case, Slices};
+use crate::reference::{Call, Interval, Operation, Outcome};
+use crate::samples::{identity, three_equations, INPUT};
+use crate::side::{Flat, Reference};
+use crate::sweep_list::{Solution, SweepList};
+use crate::text_case::TextCase;
+use std::cell::Cell;
+
+/// One wrong number or byte in an answer.
+#[derive(Clone, Copy, Debug)]
+enum Change {
+    Number,
+    Place,
+    Count,
+    /// In the first, second or third slice, its first or last number or byte.
+    Slice(usize, bool),
+}
+
+const CHANGES: [Change; 9] = [
+    Change::Number,
+    Change::Place,
+    Change::Count,
+    Change::Slice(0, false),
+    Change::Slice(0, true),
+    Change::Slice(1, false),
+    Change::Slice(1, true),
+    Change::Slice(2, false),
+    Change::Slice(2, true),
+];
+
+/// The reference, but for one change in one of its answers.
+struct Changed {
+    change: Change,
+    /// Calls until the changed one.
+    calls: Cell<usize>,
+}
+
+impl Changed {
+    fn is_now(&self) -> bool {
+        let calls = self.calls.get();
+        self.calls.set(calls.wrapping_sub(1));
+        calls == 0
+    }
+
+    fn outcome(&self, mut outcome: Outcome) -> Outcome {
+        match self.change {
+            Change::Number => outcome.number += 1,
+            Change::Place => outcome.place += 1,
+            Change::Count => outcome.count += 1,
+            Change::Slice(..) => (),
+        }
+        outcome
+    }
+
+    /// The number or byte that is to be wrong.
+    fn chosen<'a, T>(&self, slices: [&'a mut [T]; 3]) -> Option<&'a mut T> {
+        let Change::Slice(slice, last) = self.change else {
+            return None;
+        };
+        let slice = slices.into_iter().nth(slice)?;
+        if last {
+            slice.last_mut()
+        } else {
+            slice.first_mut()
+        }
+    }
+
+    fn numbers(&self, outcome: Outcome, lent: Slices) -> Outcome {
+        if !self.is_now() {
+            return outcome;
+        }
+        let slices = [lent.matrix, lent.right_side, lent.bounds];
+        self.chosen(slices)
+            .into_iter()
+            .for_each(|number| *number += 1);
+        self.outcome(outcome)
+    }
+}
+
+impl Side for Changed {
+    fn step(&self, operation: Operation, a: Interval, b: Interval) -> Flat {
+        let (number, place, lo, hi) = Reference.step(operation, a, b);
+        match self.change {
+            Change::Number => (number + 1, place, lo, hi),
+            Change::Place => (number, place + 1, lo, hi),
+            Change::Count => (number, place, lo + 1, hi),
+            Change::Slice(..) => (number, place, lo, hi + 1),
+        }
+    }
+
+    fn eliminate(&self, call: Call, n: usize, mut lent: Slices) -> Outcome {
+        self.numbers(Reference.eliminate(call, n, lent.again()), lent)
+    }
+
+    fn sweep(&self, n: usize, mut lent: Slices, allowed: usize) -> Outcome {
+        self.numbers(Reference.sweep(n, lent.again(), allowed), lent)
+    }
+
+    fn report(&self, text: &mut [u8], out: &mut [u8]) -> Outcome {
+        let outcome = Reference.report(text, out);
+        if !self.is_now() {
+            return outcome;
+        }
+        let byte = self.chosen([text, out, &mut []]);
+        byte.into_iter().for_each(|byte| *byte ^= 1);
+        self.outcome(outcome)
+    }
+}
+
+/// Each change of the answer to each call is noticed; the reference itself is
+/// not.
+fn assert_compared<T: Trial + Clone>(goals: &[Goal], trials: &[T], slices: usize) {
+    let calls = compare(goals.to_vec(), trials.iter().cloned(), 99, &Reference);
+    let calls = calls.unwrap().calls() as usize;
+    let possible = |change: &&Change| match change {
+        Change::Slice(slice, _) => *slice < slices,
+        _ => true,
+    };
+    for change in CHANGES.iter().filter(possible) {
+        for call in 0..calls {
+            let side = Changed {
+                change: *change,
+                calls: Cell::new(call),
+            };
+            let found = compare(goals.to_vec(), trials.iter().cloned(), 99, &side);
+            assert!(found.is_err(), "{change:?} in call {call}");
+        }
+    }
+}
+
+/// x = x / 2 + 1 unit, so x is 2 units.
+fn list(allowed: &[usize]) -> SweepList {
+    let lent = Case {
+        n: 1,
+        matrix: vec![500_000; 2],
+        right_side: vec![1; 2],
+        bounds: vec![0, 100],
+    };
+    SweepList::new(lent, allowed)
+}
+
+#[test]
+fn every_number_of_an_answer_is_compared() {
+    let one = Interval::point(1_000_000);
+    let pair = Pair {
+        operation: Operation::Sum,
+        a: one,
+        b: one,
+    };
+    assert_compared(&goals::of_step(Operation::Sum), &[pair], 1);
+    let call = Call::Eliminate;
+    let refused = three_equations().nth(1).unwrap();
+    let both = [identity(2), refused].map(|system| Elimination {
+        call,
+        lent: Case::new(&system),
+    });
+    assert_compared(&goals::of_elimination(call), &both, 3);
+    assert_compared(&goals::of_sweep(), &[list(&[2, 0, 100])], 3);
+    let texts = [INPUT, b"a\n1:0\n0:0\n"].map(|text| TextCase::new(text.to_vec()));
+    assert_compared(&goals::of_report(), &texts, 2);
+}
+
+#[test]
+fn a_wrong_length_of_the_sheet_is_expected_as_the_call_answers_it() {
+    let mut case = TextCase::new(INPUT.to_vec());
+    case.out.truncate(7);
+    let tally = compare(goals::of_report(), [case].into_iter(), 9, &Reference);
+    assert_eq!(tally.unwrap().calls(), 1);
+}
+
+/// A call gets the box that the one before left: 100, 51, 27 units.
+#[test]
+fn a_list_goes_on_with_its_box() {
+    let tally = compare(
+        goals::of_sweep(),
+        [list(&[1, 0, 1, 10_001, 5])].into_iter(),
+        9,
+        &Reference,
+    );
+    let unreached = tally.unwrap().unreached();
+    for reached in ["0, 9 or 7 on a box that the list has written", "9 for n 1"] {
+        assert!(!unreached.iter().any(|goal| goal == reached), "{reached}");
+    }
+}
+
+#[test]
+fn a_lost_solution_is_reported() {
+    let mut wrong = list(&[100]);
+    wrong.solution = Some(Solution {
+        numerators: vec![99],
+        denominator: 1,
+    });
+    let found = compare(goals::of_sweep(), [wrong].into_iter(), 9, &Reference);
+    let text = found.unwrap_err();
+    assert!(text.contains("is lost"), "{text}");
+}
+
+#[test]
+fn a_difference_names_what_differs() {
+    let side = |change| Changed {
+        change,
+        calls: Cell::new(0),
+    };
+    let elimination = Elimination {
+        call: Call::Eliminate,
+        lent: Case::new(&identity(1)),
+    };
+    let goals = goals::of_elimination(Call::Eliminate);
+    let found = compare(goals, [elimination].into_iter(), 1, &side(CHANGES[7])).unwrap_err();
+    for part in [
+        "number 0 of the box",
+        "reference: 1000000",
+        "archive:   1000001",
+    ] {
+        assert!(found.contains(part), "{found}");
+    }
+    assert!(!found.contains("wrote past"), "{found}");
+    let text = [TextCase::new(INPUT.to_vec())].into_iter();
+    let found = compare(goals::of_report(), text, 1, &side(CHANGES[5])).unwrap_err();
+    for part in ["byte 0 of the sheet", "W1;V2\\n", "3000000:4000000"] {
+        assert!(found.contains(part), "{found}");
+    }
+}
+
+#[test]
+fn what_was_not_reached_is_named() {
+    let mut tally = Tally::new(vec![Goal::once("a"), Goal::at("b", 2..=4)]);
+    assert_eq!(tally.unreached(), ["a", "b 2", "b 3", "b 4"]);
+    tally.count(0);
+    tally.count(9);
+    tally.reach("b", 3);
+    tally.reach("b", 3);
+    tally.reach("a", 0);
+    assert_eq!(tally.unreached(), ["b 2", "b 4"]);
+    assert_eq!(tally.calls(), 2);
+    assert_eq!(tally.report(), "0: 1, 9: 1\n  a: 1\n  b 2 to 4: 0, 2, 0");
+}

@@ -1,0 +1,44 @@
+//! The calls of document 01, as one of the sides does them.
+
+use crate::case::Slices;
+use crate::reference::{self, Call, Interval, Operation, Outcome, Step};
+
+/// A step's answer laid flat: number, place, lower end, upper end.
+pub type Flat = (u64, u64, i64, i64);
+
+/// Slices that a call only reads can be altered too, so that a forbidden change
+/// is seen.
+pub trait Side {
+    fn step(&self, operation: Operation, a: Interval, b: Interval) -> Flat;
+    fn eliminate(&self, call: Call, n: usize, lent: Slices) -> Outcome;
+    fn sweep(&self, n: usize, lent: Slices, allowed: usize) -> Outcome;
+    fn report(&self, text: &mut [u8], out: &mut [u8]) -> Outcome;
+}
+
+/// The implementation in this package.
+pub struct Reference;
+
+impl Side for Reference {
+    fn step(&self, operation: Operation, a: Interval, b: Interval) -> Flat {
+        match reference::step(operation, a, b) {
+            Step::Value(Interval { lo, hi }) => (0, 0, lo, hi),
+            Step::Refused { number, place } => (number, place, 0, 0),
+        }
+    }
+
+    fn eliminate(&self, call: Call, n: usize, lent: Slices) -> Outcome {
+        let (matrix, right_side, bounds) = (lent.matrix, lent.right_side, lent.bounds);
+        match call {
+            Call::Eliminate => reference::eliminate(n, matrix, right_side, bounds),
+            Call::EliminateBalance => reference::eliminate_balance(n, matrix, right_side, bounds),
+        }
+    }
+
+    fn sweep(&self, n: usize, lent: Slices, allowed: usize) -> Outcome {
+        reference::sweep(n, lent.matrix, lent.right_side, lent.bounds, allowed)
+    }
+
+    fn report(&self, text: &mut [u8], out: &mut [u8]) -> Outcome {
+        reference::report(text, out)
+    }
+}

@@ -1,0 +1,96 @@
+//! Bounds on one farm's milk through a loop of vats.
+//!
+//! Safe calls of the proved archive that `rt staticlib capi` makes: slices in,
+//! an enum out. Every input is answered, and a refusal changes nothing that was
+//! lent.
+//!
+//! Numbers are counts of units of one millionth: of a whole for shares, of a
+//! tonne (so one gram) for weights. An interval is two of them, lower end then
+//! upper end, both from [`LOWEST`] to [`HIGHEST`]; that is 'the range'. With n
+//! vats a matrix is 2·n·n numbers, row by row, and a right side or a box 2·n
+//! numbers.
+//!
+//! The interface is not frozen, and this package must come from the same
+//! version as the archive: nothing tells if it does not.
+//!
+//! # Half of V1 goes on into V2, at most half of V2 returns, V1 gets 3 tonnes
+//!
+//! ```
+//! use kifwaleb::{eliminate_balance, sweep, Outcome};
+//!
+//! let shares = [0, 0, 0, 500_000, 500_000, 500_000, 0, 0];
+//! let deliveries = [3_000_000, 3_000_000, 0, 0];
+//! let mut bounds = [0; 4];
+//! let first = eliminate_balance(2, &shares, &deliveries, &mut bounds);
+//! assert_eq!(first, Outcome::Done);
+//! let swept = sweep(2, &shares, &deliveries, &mut bounds, 100);
+//! assert_eq!((swept.outcome, swept.count), (Outcome::Done, 1));
+//! assert_eq!(bounds, [3_000_000, 4_000_000, 1_500_000, 2_000_000]);
+//! ```
+
+#![deny(missing_docs)]
+
+mod outcome;
+pub mod raw;
+mod steps;
+mod systems;
+mod texts;
+
+pub use outcome::{Outcome, Refusal};
+pub use steps::{difference, product, quotient, sum, Interval, Step};
+pub use systems::{eliminate, eliminate_balance, sweep, Swept};
+pub use texts::{report, Written};
+
+/// One whole, or one tonne, in units.
+///
+/// ```
+/// use kifwaleb::{quotient, Interval, Step, SCALE};
+/// let third = quotient(Interval::point(SCALE), Interval::point(3 * SCALE));
+/// assert_eq!(third, Step::Value(Interval { lo: 333_333, hi: 333_334 }));
+/// ```
+pub const SCALE: i64 = 1_000_000;
+
+/// The lower end of the range, in units.
+///
+/// ```
+/// use kifwaleb::{difference, Interval, Step, LOWEST};
+/// let lowest = Interval::point(LOWEST);
+/// assert_eq!(difference(lowest, Interval::point(1)), Step::OutOfRange);
+/// ```
+pub const LOWEST: i64 = -2_000_000_000;
+
+/// The upper end of the range, in units.
+///
+/// ```
+/// use kifwaleb::{sum, Interval, Step, HIGHEST};
+/// let highest = Interval::point(HIGHEST);
+/// assert_eq!(sum(highest, Interval::point(0)), Step::Value(highest));
+/// ```
+pub const HIGHEST: i64 = 2_000_000_000;
+
+/// The most vats of one call.
+///
+/// ```
+/// use kifwaleb::{eliminate, Outcome, Refusal, MOST_VATS};
+/// let refused = eliminate(MOST_VATS + 1, &[], &[], &mut []);
+/// assert_eq!(refused, Outcome::Refused(Refusal::Size));
+/// ```
+pub const MOST_VATS: usize = 32;
+
+/// The most sweeps that may be allowed to one call.
+///
+/// ```
+/// use kifwaleb::{sweep, Outcome, MOST_SWEEPS};
+/// let swept = sweep(1, &[0, 0], &[5, 5], &mut [0, 9], MOST_SWEEPS);
+/// assert_eq!((swept.outcome, swept.count), (Outcome::Done, 2));
+/// ```
+pub const MOST_SWEEPS: usize = 10_000;
+
+/// The bytes of a lent sheet: exactly so many.
+///
+/// ```
+/// let mut sheet = [0; kifwaleb::SHEET_LENGTH];
+/// let written = kifwaleb::report(b"V1\n0:0\n5:5\n", &mut sheet);
+/// assert_eq!(&sheet[..written.count], b"V1\n5:5\nsettled 1\n");
+/// ```
+pub const SHEET_LENGTH: usize = 2_048;

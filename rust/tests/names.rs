@@ -1,0 +1,66 @@
+//! Every number that a call returns has its name, and a refusal changes nothing
+//! that was lent.
+
+use kifwaleb::{difference, product, quotient, sum, Interval, Step, HIGHEST};
+use kifwaleb::{eliminate, eliminate_balance, report, sweep, Outcome, Refusal, SHEET_LENGTH};
+
+const ONE: [i64; 2] = [1_000_000; 2];
+
+#[test]
+fn each_step_has_its_value_and_its_refusals() {
+    let (one, three) = (Interval::point(1_000_000), Interval::point(3_000_000));
+    let crossed = Interval { lo: 1, hi: 0 };
+    assert_eq!(sum(one, three), Step::Value(Interval::point(4_000_000)));
+    assert_eq!(
+        difference(one, three),
+        Step::Value(Interval::point(-2_000_000))
+    );
+    assert_eq!(product(one, three), Step::Value(three));
+    assert_eq!(quotient(three, one), Step::Value(three));
+    assert_eq!(sum(crossed, one), Step::BadOperand(0));
+    assert_eq!(difference(one, crossed), Step::BadOperand(1));
+    assert_eq!(product(three, Interval::point(HIGHEST)), Step::OutOfRange);
+    assert_eq!(quotient(one, Interval { lo: 0, hi: 1 }), Step::ZeroDivisor);
+}
+
+fn assert_refused(refusal: Refusal, call: impl Fn(&mut [i64]) -> Outcome) {
+    let mut bounds = [7, 8];
+    assert_eq!(call(&mut bounds), Outcome::Refused(refusal));
+    assert_eq!(bounds, [7, 8]);
+}
+
+#[test]
+fn each_refusal_of_an_elimination_has_its_name() {
+    let eliminated = |n, a: &[i64], f: &[i64], refusal| {
+        assert_refused(refusal, |bounds| eliminate(n, a, f, bounds));
+    };
+    eliminated(33, &ONE, &ONE, Refusal::Size);
+    eliminated(1, &[], &ONE, Refusal::Length(1));
+    eliminated(1, &ONE, &[], Refusal::Length(2));
+    eliminated(1, &ONE, &[1, 0], Refusal::Ends(1));
+    eliminated(1, &[-1, 1], &ONE, Refusal::ContainsZero(1));
+    eliminated(1, &[1, 1], &ONE, Refusal::OutOfRange(1));
+    assert_refused(Refusal::Length(3), |bounds| {
+        eliminate_balance(1, &ONE, &ONE, &mut bounds[..1])
+    });
+}
+
+#[test]
+fn each_refusal_of_a_sweep_call_has_its_name() {
+    let swept = |delivery: &[i64], allowed, refusal| {
+        assert_refused(refusal, |bounds| {
+            sweep(1, &[0, 0], delivery, bounds, allowed).outcome
+        });
+    };
+    swept(&[7, 8], 0, Refusal::Allowed);
+    swept(&[1, 0], 1, Refusal::Ends(1));
+    swept(&[9, 9], 1, Refusal::Empty(1));
+}
+
+#[test]
+fn a_sheet_is_written_at_the_beginning() {
+    let mut out = [b'.'; SHEET_LENGTH];
+    let written = report(b"", &mut out);
+    assert_eq!((written.outcome, written.count), (Outcome::Done, 12));
+    assert_eq!(&out[..14], b"refused 8 1\n..");
+}
