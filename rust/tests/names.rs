@@ -60,7 +60,15 @@ fn each_refusal_of_a_sweep_call_has_its_name() {
 #[test]
 fn a_sheet_is_written_at_the_beginning() {
     let mut out = [b'.'; SHEET_LENGTH];
-    let written = report(b"", &mut out);
-    assert_eq!((written.outcome, written.count), (Outcome::Done, 12));
-    assert_eq!(&out[..14], b"refused 8 1\n..");
+    let written = report(b"a\n0:0\n5:6\n", &mut out);
+    assert_eq!((written.outcome, written.count), (Outcome::Done, 16));
+    assert_eq!(&out[..18], b"a\n5:6\nsettled 1\n..");
+}
+
+#[test]
+fn a_refused_text_leaves_the_sheet() {
+    let mut out = [b'.'; SHEET_LENGTH];
+    let written = report(b"a\n0:0\n", &mut out);
+    assert_eq!(written.outcome, Outcome::Refused(Refusal::Text(3)));
+    assert_eq!((written.count, out), (0, [b'.'; SHEET_LENGTH]));
 }

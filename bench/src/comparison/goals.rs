@@ -101,8 +101,8 @@ pub fn of_sweep() -> Vec<Goal> {
 }
 
 /// The box of one vat is settled at once, a surplus line is not missing, and the
-/// last faulty line is one too many after 32 vats. No sheet says 7: the box that
-/// elimination writes holds a solution.
+/// last faulty line is one too many after 32 vats. No text is known that leads to
+/// a 7: the box that elimination writes would have to hold no solution.
 pub fn of_report() -> Vec<Goal> {
     let mut goals = vec![
         Goal::at("settled for n", 1..=MOST_EQUATIONS),

@@ -43,7 +43,7 @@ fn reach_swept(tally: &mut Tally, n: usize, end: &SweepEnd) {
     let goal = match end {
         SweepEnd::Settled { .. } => "settled for n",
         SweepEnd::Spent { .. } => "spent for n",
-        _ => panic!("the box of an elimination passes every test and holds a solution: {end:?}"),
+        _ => panic!("a text that leads to a 7, the first one known: {end:?}"),
     };
     tally.reach(goal, n);
     let count = end.outcome().count;

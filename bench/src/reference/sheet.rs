@@ -197,14 +197,25 @@ mod tests {
     }
 
     #[test]
-    fn the_length_of_the_lent_sheet_is_tested_first() {
+    fn the_length_of_the_lent_sheet_is_tested_after_the_text() {
         for length in [0, 1, 2_047, 2_049, 4_096] {
             let mut out = vec![7; length];
-            for text in [INPUT, b"", &[b'a'; 65_537]] {
-                assert_eq!(report(text, &mut out), Outcome::new(2, 3));
-            }
+            assert_eq!(report(INPUT, &mut out), Outcome::new(2, 3));
+            assert_eq!(report(b"a\n1:0\n5:5\n", &mut out), Outcome::new(2, 3));
+            assert_eq!(report(b"", &mut out), Outcome::new(8, 1));
+            assert_eq!(report(&[b'a'; 65_537], &mut out), Outcome::new(8, 0));
+            assert_eq!(print(b"", &mut out), Outcome::new(2, 3));
             assert!(out.iter().all(|byte| *byte == 7));
         }
+    }
+
+    #[test]
+    fn a_refusal_writes_nothing_and_is_printed() {
+        let mut out = [7; SHEET_LENGTH];
+        assert_eq!(report(b"", &mut out), Outcome::new(8, 1));
+        assert_eq!(out, [7; SHEET_LENGTH]);
+        assert_eq!(print(b"", &mut out), Outcome::counted(0, 0, 12));
+        assert_eq!(&out[..13], b"refused 8 1\n\x07");
     }
 
     /// 32 names of 16 bytes, and values of 11 bytes at both ends.
