@@ -5,7 +5,9 @@ use kifwaleb_bench::archive::Archive;
 use kifwaleb_bench::case::{Case, Slices};
 use kifwaleb_bench::generator::long_named_text;
 use kifwaleb_bench::plain;
-use kifwaleb_bench::reference::{Call, Outcome, DONE, MOST_SWEEPS, SHEET_LENGTH, SPENT};
+use kifwaleb_bench::reference::{
+    Call, Outcome, DONE, FAULTY_ENDS, MOST_SWEEPS, SHEET_LENGTH, SPENT,
+};
 use kifwaleb_bench::side::Side as _;
 use std::hint::black_box;
 
@@ -97,7 +99,9 @@ impl Task {
         let (number, count) = (ours.0.number, ours.0.count);
         match self {
             Task::Sweep { allowed, .. } => assert_eq!((number, count), (SPENT, *allowed as u64)),
-            _ => assert_eq!(number, DONE),
+            // A text that is only read is refused for its first interval.
+            Task::Report { .. } => assert!(number == DONE || number == FAULTY_ENDS),
+            Task::Eliminate(_) => assert_eq!(number, DONE),
         }
     }
 
