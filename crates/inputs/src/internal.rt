@@ -62,7 +62,7 @@ pub fn lengths(slices: &[[usize; 3]]) -> Test
 
 // Test 3, of the intervals of one slice, whose first position is from.
 pub fn intervals(s: &[i64], count: usize, from: usize) -> Test
-    requires { ⌜ (2 * count ≤ length (now s)) × (from + count < 65536) ⌝ }
+    requires { ⌜ (2 * count ≤ length (now s)) × (from + count < 65_536) ⌝ }
     ensures { λ r. ⌜ r ≡ proper (now (s .entry)) count 0 from ⌝ }
 {
     for p in 0..count {

@@ -21,8 +21,8 @@ const BIAS_AND_ROUND_UP: i64 = BIAS + ROUND_UP;
 
 // p / SCALE rounded down.
 fn scaled_down(p: i64) -> i64
-    requires { ⌜ negsuc 3999999999999999999 ≤ℤ p ⌝ }
-    requires { ⌜ p ≤ℤ pos 4000000000000000000 ⌝ }
+    requires { ⌜ negsuc 3_999_999_999_999_999_999 ≤ℤ p ⌝ }
+    requires { ⌜ p ≤ℤ pos 4_000_000_000_000_000_000 ⌝ }
     ensures { λ r. ⌜ r ≡ floorDiv p scale ⌝ }
 {
     let n = (p + BIAS) as u64;
@@ -32,8 +32,8 @@ fn scaled_down(p: i64) -> i64
 
 // p / SCALE rounded up.
 fn scaled_up(p: i64) -> i64
-    requires { ⌜ negsuc 3999999999999999999 ≤ℤ p ⌝ }
-    requires { ⌜ p ≤ℤ pos 4000000000000000000 ⌝ }
+    requires { ⌜ negsuc 3_999_999_999_999_999_999 ≤ℤ p ⌝ }
+    requires { ⌜ p ≤ℤ pos 4_000_000_000_000_000_000 ⌝ }
     ensures { λ r. ⌜ r ≡ ceilDiv p scale ⌝ }
 {
     let n = (p + BIAS_AND_ROUND_UP) as u64;

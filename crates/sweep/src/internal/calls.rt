@@ -15,7 +15,7 @@ ghost use Rattle.sweep.specs.Code.{Ready, Logged, Ran};
 
 // Sweeps x until it settles, is found empty, or the sweeps allowed are spent.
 fn repeat(n: usize, m: &[i64], r: &[i64], x: &mut [i64], allowed: usize) -> Swept
-    requires { ⌜ Ready n (now m) (now r) (now x) × (allowed ≤ 10000) ⌝ }
+    requires { ⌜ Ready n (now m) (now r) (now x) × (allowed ≤ 10_000) ⌝ }
     ensures { λ s. ⌜
         Logged (sweeps n (sweep singly (system n (now (m .entry)) (now (r .entry)))) allowed (now (x .entry)))
         (now (x .entry)) s (now (x .exit))
