@@ -30,7 +30,7 @@
  *
  * No call allocates memory, waits, or keeps anything for the next call. Give a
  * thread that calls at least 128 kB of stack: kifwaleb_report, which takes the most,
- * takes about 35 kB, and the rest is for the thread itself and the C library.
+ * takes about 38 kB, and the rest is for the thread itself and the C library.
  */
 #ifndef KIFWALEB_H
 #define KIFWALEB_H
