@@ -12,9 +12,6 @@ use std::process::{Command, Stdio};
 /// Names the program under test.
 const PROGRAM: &str = "KIFWALEB_BALANCE";
 
-/// Edge texts that stand side by side are alike: one in so many is enough.
-const STRIDE: usize = 79;
-
 /// True if the program prints every sheet, or if none is named.
 pub fn holds(plan: &Plan) -> bool {
     let Some(program) = env::var_os(PROGRAM) else {
@@ -22,7 +19,10 @@ pub fn holds(plan: &Plan) -> bool {
         return true;
     };
     println!("comparing the program on {} texts", plan.programs);
-    let edge = edge_texts().step_by(STRIDE).take(plan.programs / 2);
+    // Half of them are edge texts. Those that stand side by side are alike: if not all
+    // can be given, they are spread evenly.
+    let stride = edge_texts().count() * 2 / plan.programs.max(1) + 1;
+    let edge = edge_texts().step_by(stride).take(plan.programs / 2);
     let texts = edge.chain(random_texts(plan.seed)).map(|case| case.text);
     let mut some = texts.take(plan.programs);
     some.all(|text| prints_its_sheet(&program, &text))
