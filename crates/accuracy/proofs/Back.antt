@@ -21,11 +21,11 @@ use Rattle.inputs.proofs.Place.{length-put, at-put-same, at-put-other}
 use Rattle.rows.specs.Sum.{RowSum}
 use Rattle.rows.specs.Exact.{nought, exactRow, Encloses}
 use Rattle.outcome.specs.Run.{done}
-use Rattle.elimination.specs.Run.{cell, rhs}
+use Rattle.forward.specs.Run.{cell, rhs}
 use Rattle.elimination.specs.Back.{numerator, back}
-use Rattle.elimination.specs.Code.{Pivots}
-use Rattle.elimination.proofs.Index.{cell-before}
-use Rattle.elimination.proofs.Run.{done-same, ranged}
+use Rattle.forward.specs.Code.{Pivots}
+use Rattle.forward.proofs.Index.{cell-before}
+use Rattle.forward.proofs.Run.{done-same, ranged}
 use Rattle.accuracy.proofs.Common.{ratio}
 use Rattle.accuracy.proofs.Row.{Row, dot, Holds, Met}
 use Rattle.accuracy.proofs.Sum.{parts, sum-same, dot-shift}
@@ -85,7 +85,7 @@ module _ (sum : RowSum) (encloses : Encloses sum) (n : ℕ) (w : ℕ → ℤ) (q
     back-inside (suc i) t t′ b room P H later e =
         back-inside i (put t (rhs n i) v) t′ (omega arith) (rw length-put room)
         (record { each = λ k h. rw (apart k k h h) (P .each k h) })
-        (λ l h. keep-row (λ j k. apart l j (omega arith) k) (at-put-other t (rhs n i) (rhs n l) v (omega arith)) (H l (omega arith)))
+        (λ l h. keep-row (λ j u k. apart l j (omega arith) k) (at-put-other t (rhs n i) (rhs n l) v (omega arith)) (H l (omega arith)))
         (λ j a c. here j a c (ℕ-discrete j i))
         (ranged _ _ _ t′ (ranged _ _ _ t′ e .rest) .rest)
       where

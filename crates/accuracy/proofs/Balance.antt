@@ -16,8 +16,8 @@ use Rattle.fraction.proofs.Inside.{same-sym, inside-same}
 use Rattle.fraction.proofs.Sum.{difference-inside}
 use Rattle.inputs.specs.Place.{at}
 use Rattle.rows.specs.Exact.{exactRow}
-use Rattle.elimination.specs.Run.{cell, rhs}
-use Rattle.elimination.specs.Formed.{identity}
+use Rattle.forward.specs.Run.{cell, rhs}
+use Rattle.forward.specs.Formed.{identity}
 use Rattle.accuracy.proofs.Common.{ratio, cancel-same, same-trans, widen-same, own-same, Common, common}
 use Rattle.accuracy.proofs.Row.{dot, Row, Holds, Met, dot-difference}
 use Rattle.accuracy.proofs.Sum.{parts, sum-same}

@@ -13,10 +13,10 @@ use Rattle.interval.proofs.Range.{same-ends}
 use Rattle.inputs.specs.Place.{at}
 use Rattle.inputs.specs.System.{System}
 use Rattle.inputs.proofs.Place.{at-left, at-right}
-use Rattle.elimination.specs.Run.{cell, rhs}
-use Rattle.elimination.specs.Formed.{identity}
+use Rattle.forward.specs.Run.{cell, rhs}
+use Rattle.forward.specs.Formed.{identity}
 use Rattle.elimination.specs.Call.{copied, box}
-use Rattle.elimination.proofs.Index.{cell-before}
+use Rattle.forward.proofs.Index.{cell-before}
 use Rattle.accuracy.specs.Solution.{numbers, balanceOf}
 
 -- ---- the working copy: the matrix, then the right side

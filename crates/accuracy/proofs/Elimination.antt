@@ -19,16 +19,17 @@ use Rattle.rows.specs.Sum.{RowSum, singly}
 use Rattle.rows.specs.Exact.{Encloses}
 use Rattle.rows.proofs.Enclosed.{singly-encloses}
 use Rattle.outcome.specs.Run.{Run, done}
-use Rattle.elimination.specs.Run.{cell, rhs}
-use Rattle.elimination.specs.Formed.{identity}
-use Rattle.elimination.specs.Call.{copied, solved, tests, runA, runB}
-use Rattle.elimination.proofs.Run.{never, done-same, joined}
-use Rattle.elimination.proofs.Kept.{forward-pivots}
+use Rattle.forward.specs.Run.{cell, rhs}
+use Rattle.forward.specs.Formed.{identity}
+use Rattle.forward.specs.Pivot.{lowestRow}
+use Rattle.forward.specs.Forward.{table}
+use Rattle.elimination.specs.Call.{copied, noneTaken, solved, tests, runA, runB}
+use Rattle.forward.proofs.Run.{never, done-same, joined}
+use Rattle.forward.proofs.Kept.{forward-pivots}
 use Rattle.elimination.proofs.Call.{ready, copied-working}
 use Rattle.accuracy.specs.Solution.{Solution, InBox, balanceOf}
 use Rattle.accuracy.proofs.Common.{ratio, common}
-use Rattle.accuracy.proofs.Row.{Row, Holds, Met, square-above}
-use Rattle.accuracy.proofs.Steps.{after, met-after}
+use Rattle.accuracy.proofs.Row.{Row, Holds, Met}
 use Rattle.accuracy.proofs.Forward.{forward-holds}
 use Rattle.accuracy.proofs.Back.{back-holds}
 use Rattle.accuracy.proofs.Formed.{identity-twice, rows-formed}
@@ -36,7 +37,7 @@ use Rattle.accuracy.proofs.Balance.{rowOf, row-holds, balance-met}
 use Rattle.accuracy.proofs.Copy.{copied-cell, copied-right, box-at, balance-cell}
 
 -- ---- weights that meet exact rows inside a list lie inside the box that is found from it
-pub solved-inside : (sum : RowSum) → Encloses sum → (n : ℕ) (t X : List ℤ) → 2 * (n * n + n) ≤ length t → solved sum n t ≡ done X →
+pub solved-inside : (sum : RowSum) → Encloses sum → (n : ℕ) (t X : List ℤ) → 2 * (n * n + n) ≤ length t → solved lowestRow sum n t ≡ done X →
     (R : ℕ → Row) → ((l : ℕ) → l < n → Holds n t l 0 (R l)) →
     (w : ℕ → ℤ) (q : ℤ) (above : pos 0 <ℤ q) → ((l : ℕ) → l < n → Met n 0 (R l) w q) →
     (j : ℕ) → j < n → Inside (at X j) (ratio (w j) q above)
@@ -44,14 +45,13 @@ unfolding solved
 solved-inside sum encloses n t X room e R H w q above M j h =
     let a = joined _ _ X e in
     let b = joined _ _ X (a .rest) in
-    let f = forward-holds n R t (a .mid) room H (a .first) in
-    let P = forward-pivots n t (a .mid) (a .first) in
-    let m = met-after n R w q (λ k l. square-above (P .each k l) (f .holds k l .cells k (omega arith) l)) .0 M in
+    let f = forward-holds n R (table t noneTaken) (a .mid) room H (a .first) in
+    let P = forward-pivots n (table t noneTaken) (a .mid) room (a .first) in
     rw (← (done-same (b .rest)), box-at n (b .mid) j h)
-    (back-holds sum encloses n w q above (after R n) m (a .mid) (b .mid) (omega (arith, f .as-long)) P (f .holds) (b .first) j h)
+    (back-holds sum encloses n w q above (f .left) (f .met w q .0 M) (a .mid .numbers) (b .mid) (omega (arith, f .as-long)) P (f .holds) (b .first) j h)
 
 -- ---- a solution of the balance that a list holds as I − B and b
-module _ (sum : RowSum) (encloses : Encloses sum) (s : System) (t X : List ℤ) (room : 2 * (s .size * s .size + s .size) ≤ length t) (run : solved sum (s .size) t ≡ done X)
+module _ (sum : RowSum) (encloses : Encloses sum) (s : System) (t X : List ℤ) (room : 2 * (s .size * s .size + s .size) ≤ length t) (run : solved lowestRow sum (s .size) t ≡ done X)
     (cells : (i j : ℕ) → i < s .size → j < s .size → at t (cell (s .size) i j) ≡ exactDifference (identity i j) (at (s .matrix) (cell (s .size) i j)))
     (right : (i : ℕ) → i < s .size → at t (rhs (s .size) i) ≡ at (s .right) i) where
   pub solution-inside : (x : ℕ → Fraction) → Solution s x → InBox (s .size) X x
@@ -76,7 +76,7 @@ tested-done Pass r X e = (refl, e)
 tested-done (Fail o) r X e = never e
 
 -- the call over A and f: the list holds A, which is I − (I − A)
-pub over-A : (s : System) (l : ℕ) (X : List ℤ) → runA s l ≡ done X → (x : ℕ → Fraction) → Solution (balanceOf s) x → InBox (s .size) X x
+pub over-A : (s : System) (l : ℕ) (X : List ℤ) → runA lowestRow s l ≡ done X → (x : ℕ → Fraction) → Solution (balanceOf s) x → InBox (s .size) X x
 unfolding runA balanceOf
 over-A s l X e =
     let a = tested-done (tests s l) _ X e in
@@ -87,7 +87,7 @@ over-A s l X e =
     (copied-right s m (r .fitting .right))
 
 -- the call over B and b: I − B is formed first
-pub over-B : (s : System) (l : ℕ) (X : List ℤ) → runB s l ≡ done X → (x : ℕ → Fraction) → Solution s x → InBox (s .size) X x
+pub over-B : (s : System) (l : ℕ) (X : List ℤ) → runB lowestRow s l ≡ done X → (x : ℕ → Fraction) → Solution s x → InBox (s .size) X x
 unfolding runB
 over-B s l X e =
     let a = tested-done (tests s l) _ X e in

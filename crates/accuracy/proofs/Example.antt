@@ -14,11 +14,12 @@ use Rattle.inputs.specs.Place.{at, put}
 use Rattle.inputs.specs.Tests.{both, need, sized, lengths, sizes, proper, allProper, tested}
 use Rattle.rows.specs.Sum.{summed, singly}
 use Rattle.rows.specs.Exact.{exactRow}
-use Rattle.elimination.specs.Run.{inRangeThen, cell}
-use Rattle.elimination.specs.Forward.{pivoted, rows, pivots, forward}
+use Rattle.forward.specs.Run.{inRangeThen, cell}
+use Rattle.forward.specs.Pivot.{lowestFrom, lowestRow, exchanged, swappedColumns, swapped}
+use Rattle.forward.specs.Forward.{taking, rows, pivots, forward}
 use Rattle.elimination.specs.Back.{numerator, back}
 use Rattle.elimination.specs.Call.{copied, box, solved, tests, runA, overA}
-use Rattle.elimination.specs.Formed.{identity}
+use Rattle.forward.specs.Formed.{identity}
 use Rattle.accuracy.specs.Solution.{numbers, balanceOf}
 use Rattle.accuracy.specs.Claim.{Accepted}
 use Rattle.accuracy.specs.Example.{fifth, weight, reached, Example}
@@ -52,7 +53,7 @@ row = record { holds = refl }
 
 -- what elimination writes for it, by computation
 accepted : Accepted (overA fifth) (pos 0 ∷ pos 0 ∷ []) reached
-unfolding floorDiv ceilDiv minimum maximum scale lowest highest within inRange acceptable containsZero exactDifference quotientAt at put both need sized lengths sizes proper allProper tested summed singly andThen inRangeThen pivoted rows pivots forward numerator back copied box solved tests runA ended
+unfolding floorDiv ceilDiv minimum maximum scale lowest highest within inRange acceptable containsZero exactDifference quotientAt at put both need sized lengths sizes proper allProper tested summed singly andThen inRangeThen lowestFrom lowestRow exchanged swappedColumns swapped taking rows pivots forward numerator back copied box solved tests runA ended
 accepted = record { returned = refl; left = refl }
 
 pub example : Example

@@ -21,10 +21,10 @@ use Rattle.fraction.specs.Fraction.{Inside}
 use Rattle.inputs.specs.Place.{at, put}
 use Rattle.inputs.proofs.Place.{length-put, at-put-other}
 use Rattle.outcome.specs.Run.{done}
-use Rattle.elimination.specs.Run.{cell}
-use Rattle.elimination.specs.Formed.{identity, formedRow, formedRows}
+use Rattle.forward.specs.Run.{cell}
+use Rattle.forward.specs.Formed.{identity, formedRow, formedRows}
 use Rattle.inputs.proofs.Tests.{rows-apart}
-use Rattle.elimination.proofs.Run.{done-same, joined, ranged}
+use Rattle.forward.proofs.Run.{done-same, joined, ranged}
 use Rattle.accuracy.proofs.Common.{ratio}
 use Rattle.accuracy.proofs.Row.{dot}
 use Rattle.accuracy.proofs.Written.{Written, written-none, written-more}

@@ -1,7 +1,7 @@
 -- The forward part keeps exact rows inside the intervals.
 use mathlib.Core.Path.{_≡_, refl, ap₂, _∙_, subst}
 use mathlib.Core.Bool.{false}
-use mathlib.Core.Logic.{_≢_, _⊎_, inl, inr}
+use mathlib.Core.Logic.{_≢_, _⊎_, inl, inr, _↔_}
 use mathlib.Core.List.{List}
 use Prim.Native.Nat.{ℕ, zero, suc, _+_, _-_, _*_, _≤_, _<_, min}
 use native.Mathlib.Omega.{arith}
@@ -14,14 +14,17 @@ use Rattle.interval.specs.Interval.{containsZero, exactDifference, product, quo
 use Rattle.inputs.specs.Place.{at, put}
 use Rattle.inputs.proofs.Place.{length-put, at-put-same, at-put-other}
 use Rattle.outcome.specs.Run.{done}
-use Rattle.elimination.specs.Run.{cell, rhs}
-use Rattle.elimination.specs.Forward.{reduced, columns, rightSide, rows, pivots, forward}
+use Rattle.forward.specs.Run.{cell, rhs}
+use Rattle.forward.specs.Pivot.{lowestRow, swapped}
+use Rattle.forward.specs.Forward.{Table, reduced, columns, rightSide, rows, pivots, forward}
 use Rattle.inputs.proofs.Tests.{rows-apart}
-use Rattle.elimination.proofs.Index.{cell-before}
-use Rattle.elimination.proofs.Run.{done-same, joined, ranged, stepped}
+use Rattle.forward.proofs.Index.{cell-before}
+use Rattle.forward.proofs.Run.{done-same, joined, ranged, Stepped, stepped}
+use Rattle.forward.proofs.Swap.{Swapped}
+use Rattle.forward.proofs.Kept.{step-serves, step-swapped, step-long, step-room, step-apart}
 use Rattle.accuracy.proofs.Written.{Written, written-none, written-more}
-use Rattle.accuracy.proofs.Row.{Row, Holds, reduce, square-above, factor-inside, reduced-inside}
-use Rattle.accuracy.proofs.Steps.{after, after-none, after-below, after-above}
+use Rattle.accuracy.proofs.Row.{Row, Holds, Met, reduce, square-above, factor-inside, reduced-inside}
+use Rattle.accuracy.proofs.Steps.{rowAt, rowAt-cases, reducedAt, reduced-below, reduced-above, MetAt, met-exchanged, met-from, met-step}
 
 -- ---- the columns of one row
 abbrev column-value : (n k i : ℕ) → Interval → List ℤ → ℕ → Interval
@@ -86,9 +89,10 @@ module _ (n k i : ℕ) (m : Interval) (h : k < i) (g : i < n) (t t₁ t′ : Lis
           }
 
 -- ---- exact rows
-pub keep-row : {n : ℕ} {t t′ : List ℤ} {l s : ℕ} {r : Row} → ((j : ℕ) → j < n → at t′ (cell n l j) ≡ at t (cell n l j)) → at t′ (rhs n l) ≡ at t (rhs n l) →
-    Holds n t l s r → Holds n t′ l s r
-keep-row f g h = record { above = h .above; cells = λ j a b. rw (f j b) (h .cells j a b); right = rw g (h .right) }
+-- a row that stands at another place, from column s on
+pub keep-row : {n : ℕ} {t t′ : List ℤ} {l m s : ℕ} {r : Row} → ((j : ℕ) → s ≤ j → j < n → at t′ (cell n l j) ≡ at t (cell n m j)) → at t′ (rhs n l) ≡ at t (rhs n m) →
+    Holds n t m s r → Holds n t′ l s r
+keep-row f g h = record { above = h .above; cells = λ j a b. rw (f j a b) (h .cells j a b); right = rw g (h .right) }
 
 column : {n : ℕ} {t : List ℤ} {l s s′ : ℕ} {r : Row} → s ≡ s′ → Holds n t l s r → Holds n t l s′ r
 column {n} {t} {l} {r = r} e h = subst (λ s. Holds n t l s r) e h
@@ -108,75 +112,117 @@ module _ {n k i : ℕ} {t t′ : List ℤ} {p r : Row} (b : k < n) (P : Holds n 
         right = rw (f .right) (reduced-inside (r .left k) e (r .den) (p .den) (H .above) (P .above) above (r .right) (p .right) (H .right) (P .right) m);
       }
 
--- a list as long as before, of which P holds
-pub record Kept (P : List ℤ → Type 0) (t t′ : List ℤ) : Type 0 where
-  pub as-long : length t′ ≡ length t
-  pub holds : P t′
-
-module _ (n : ℕ) (R : ℕ → Row) where
+module _ (n : ℕ) where
   -- after k steps a row begins at its diagonal or, below the last pivot, at column k
-  HoldsAfter : ℕ → List ℤ → Type 0
-  HoldsAfter k t = (l : ℕ) → l < n → Holds n t l (min l k) (after R k l)
+  HoldsAt : ℕ → List ℤ → (ℕ → Row) → Type 0
+  HoldsAt k t Q = (l : ℕ) → l < n → Holds n t l (min l k) (Q l)
 
-  -- within step k, before row i
-  record Within (k i : ℕ) (t : List ℤ) : Type 0 where
-    reached : (l : ℕ) → l < n → l < i → Holds n t l (min l (k + 1)) (after R (k + 1) l)
-    ahead : (l : ℕ) → l < n → i ≤ l → Holds n t l (min l k) (after R k l)
+  -- ---- the rows k and p change places
+  swap-holds : (k p : ℕ) (t t′ : List ℤ) (Q : ℕ → Row) → k ≤ p → p < n → Swapped n k p t t′ → HoldsAt k t Q → HoldsAt k t′ (λ l. Q (rowAt k p l))
+  unfolding HoldsAt
+  swap-holds k p t t′ Q h b w H l a =
+      rowAt-cases (λ l m. Holds n t′ l (min l k) (Q m)) k p l
+      (λ e. rw e (keep-row (λ j u v. w .first j (omega arith) v) (w .first-right) (column (omega arith) (H p b))))
+      (λ e. rw e (keep-row (λ j u v. w .second j (omega arith) v) (w .second-right) (column (omega arith) (H k (omega arith)))))
+      (λ e f. keep-row (λ j u v. w .other l j a v e f) (w .other-right l e f) (H l a))
 
-  module _ {k i : ℕ} {t t′ : List ℤ} (h : k < i) (g : i < n) (apart : containsZero (at t (cell n k k)) ≡ false) (W : Within k i t) where
-    within-next : Reduced n k i (quotient (at t (cell n i k)) (at t (cell n k k))) t t′ → Within k (i + 1) t′
-    within-next f =
-        record {
-          reached = λ l a b. go l a b (ℕ-discrete l i);
-          ahead = λ l a b. stays l a (omega arith) (W .ahead l a (omega arith));
-        }
-      where
-        stays : (l : ℕ) → l < n → l ≢ i → {s : ℕ} {r : Row} → Holds n t l s r → Holds n t′ l s r
-        stays l a b = keep-row (λ j c. f .old l j a b c) (f .old-right l a b)
+  module _ (Q : ℕ → Row) where
+    -- within step k, before row i
+    record Within (k i : ℕ) (t : List ℤ) : Type 0 where
+      reached : (l : ℕ) → l < n → l < i → Holds n t l (min l (k + 1)) (reducedAt k Q l)
+      ahead : (l : ℕ) → l < n → i ≤ l → Holds n t l (min l k) (Q l)
 
-        pivot : Holds n t k k (after R k k)
-        pivot = rw (after-above R k k (omega arith)) at (column {s′ = k} (omega arith) (W .reached k (omega arith) h))
+    module _ {k i : ℕ} {t t′ : List ℤ} (h : k < i) (g : i < n) (apart : containsZero (at t (cell n k k)) ≡ false) (W : Within k i t) where
+      within-next : Reduced n k i (quotient (at t (cell n i k)) (at t (cell n k k))) t t′ → Within k (i + 1) t′
+      within-next f =
+          record {
+            reached = λ l a b. go l a b (ℕ-discrete l i);
+            ahead = λ l a b. stays l a (omega arith) (W .ahead l a (omega arith));
+          }
+        where
+          stays : (l : ℕ) → l < n → l ≢ i → {s : ℕ} {r : Row} → Holds n t l s r → Holds n t′ l s r
+          stays l a b = keep-row (λ j u c. f .old l j a b c) (f .old-right l a b)
 
-        go : (l : ℕ) → l < n → l < i + 1 → Dec (l ≡ i) → Holds n t′ l (min l (k + 1)) (after R (k + 1) l)
-        go l a b (yes e) =
-            rw (e, after-below R k i h)
-            (column (omega arith) (reduce-holds (omega arith) pivot (column (omega arith) (W .ahead i g (omega arith))) apart f))
-        go l a b (no e) = stays l a e (W .reached l a (omega (arith, e)))
+          pivot : Holds n t k k (Q k)
+          pivot = rw (reduced-above k Q k (omega arith)) at (column {s′ = k} (omega arith) (W .reached k (omega arith) h))
 
-  rows-hold : (k : ℕ) (pivot : Interval) → containsZero pivot ≡ false → (d i : ℕ) (t t′ : List ℤ) → k < i → i + d ≡ n → 2 * (n * n + n) ≤ length t → at t (cell n k k) ≡ pivot →
-      Within k i t → rows n k pivot d i t ≡ done t′ → Kept (HoldsAfter (k + 1)) t t′
-  unfolding rows HoldsAfter
-  rows-hold k pivot apart zero i t t′ h b room p W e =
-      subst (λ s. Kept (HoldsAfter (k + 1)) t s) (done-same e) (record { as-long = refl; holds = λ l a. W .reached l a (omega arith) })
-  rows-hold k pivot apart (suc d) i t t′ h b room p W e =
-      let a = ranged _ _ _ t′ e in
-      let c = joined _ _ t′ (a .rest) in
-      let u = joined _ _ t′ (c .rest) in
-      let g : i < n = omega arith in
-      let f = row-done n k i _ h g t (c .mid) (u .mid) room (c .first) (u .first) in
-      let r = rows-hold k pivot apart d (i + 1) (u .mid) t′ (omega arith) (omega arith) (omega (arith, f .as-long)) (f .old k k (omega arith) (omega arith) (omega arith) ∙ p)
-      (within-next h g (rw p apart) W (rw p f)) (u .rest) in
-      record { as-long = r .as-long ∙ f .as-long; holds = r .holds }
+          go : (l : ℕ) → l < n → l < i + 1 → Dec (l ≡ i) → Holds n t′ l (min l (k + 1)) (reducedAt k Q l)
+          go l a b (yes e) =
+              rw (e, reduced-below k Q i h)
+              (column (omega arith) (reduce-holds (omega arith) pivot (column (omega arith) (W .ahead i g (omega arith))) apart f))
+          go l a b (no e) = stays l a e (W .reached l a (omega (arith, e)))
 
-  pivots-hold : (d k : ℕ) (t t′ : List ℤ) → k + d ≡ n → 2 * (n * n + n) ≤ length t → HoldsAfter k t → pivots n d k t ≡ done t′ → Kept (HoldsAfter n) t t′
-  unfolding pivots HoldsAfter
-  pivots-hold zero k t t′ b room H e =
-      let f : k ≡ n = omega arith in
-      subst (λ s. Kept (HoldsAfter n) t s) (done-same e) (record { as-long = refl; holds = rw f at H })
-  pivots-hold (suc d) k t t′ b room H e =
-      let s = stepped n d k t t′ e in
-      let W : Within k (k + 1) t = record {
-        reached = λ l a c. rw (after-above R k l (omega arith)) (column (omega arith) (H l a));
-        ahead = λ l a c. H l a;
+    rows-hold : (k : ℕ) (pivot : Interval) → containsZero pivot ≡ false → (d i : ℕ) (t t′ : List ℤ) → k < i → i + d ≡ n → 2 * (n * n + n) ≤ length t → at t (cell n k k) ≡ pivot →
+        Within k i t → rows n k pivot d i t ≡ done t′ → HoldsAt (k + 1) t′ (reducedAt k Q)
+    unfolding rows HoldsAt
+    rows-hold k pivot apart zero i t t′ h b room p W e = subst (λ s. HoldsAt (k + 1) s (reducedAt k Q)) (done-same e) (λ l a. W .reached l a (omega arith))
+    rows-hold k pivot apart (suc d) i t t′ h b room p W e =
+        let a = ranged _ _ _ t′ e in
+        let c = joined _ _ t′ (a .rest) in
+        let u = joined _ _ t′ (c .rest) in
+        let g : i < n = omega arith in
+        let f = row-done n k i _ h g t (c .mid) (u .mid) room (c .first) (u .first) in
+        rows-hold k pivot apart d (i + 1) (u .mid) t′ (omega arith) (omega arith) (omega (arith, f .as-long)) (f .old k k (omega arith) (omega arith) (omega arith) ∙ p)
+        (within-next h g (rw p apart) W (rw p f)) (u .rest)
+
+  -- ---- a step, and the steps from k on: rows that the list then holds, which the same weights meet
+  record Onward (k k′ : ℕ) (t t′ : List ℤ) (Q : ℕ → Row) : Type 0 where
+    as-long : length t′ ≡ length t
+    left : ℕ → Row
+    holds : HoldsAt k′ t′ left
+    met : (w : ℕ → ℤ) (q : ℤ) → MetAt n w q k Q ↔ MetAt n w q k′ left
+
+  step-holds : (d k : ℕ) (s s′ : Table) (Q : ℕ → Row) → k < n → 2 * (n * n + n) ≤ length (s .numbers) → HoldsAt k (s .numbers) Q → (x : Stepped lowestRow n d k s s′) → Onward k (k + 1) (s .numbers) (x .mid) Q
+  unfolding HoldsAt
+  step-holds d k s s′ Q b room H x =
+      let v = step-serves n d k s s′ b room x in
+      let w = step-swapped n d k s s′ b room x in
+      let z = step-apart n d k s s′ b room x in
+      let P : ℕ → Row = λ l. Q (rowAt k (x .row) l) in
+      let G = swap-holds k (x .row) (s .numbers) _ Q (v .from) (v .below) w H in
+      let W : Within P k (k + 1) (swapped n k (x .row) (s .numbers)) = record {
+        reached = λ l a c. rw (reduced-above k P l (omega arith)) (column (omega arith) (G l a));
+        ahead = λ l a c. G l a;
       } in
-      let f = rows-hold k _ (s .apart) (n - (k + 1)) (k + 1) t (s .mid) (omega arith) (omega arith) room refl W (s .below) in
-      let g = pivots-hold d (k + 1) (s .mid) t′ (omega arith) (omega (arith, f .as-long)) (f .holds) (s .rest) in
-      record { as-long = g .as-long ∙ f .as-long; holds = g .holds }
+      let above = square-above z (column {s′ = k} (omega arith) (G k b) .cells k (omega arith) b) in record {
+        as-long = step-long n d k s s′ b room x;
+        left = reducedAt k P;
+        holds = rows-hold P k _ z (n - (k + 1)) (k + 1) _ (x .mid) (omega arith) (omega arith) (omega (arith, w .as-long, room)) refl W (x .below);
+        met = λ w q. let e = met-exchanged n w q k (x .row) (v .from) (v .below) Q in let f = met-step n w q k b P above in ((λ m. f .0 (e .0 m)), (λ m. e .1 (f .1 m)));
+      }
 
-  -- from the whole rows to the triangle
-  pub forward-holds : (t t′ : List ℤ) → 2 * (n * n + n) ≤ length t → ((l : ℕ) → l < n → Holds n t l 0 (R l)) → forward n t ≡ done t′ →
-      Kept (λ s. (l : ℕ) → l < n → Holds n s l l (after R n l)) t t′
-  unfolding forward HoldsAfter
-  forward-holds t t′ room H e =
-      let f = pivots-hold n 0 t t′ (omega arith) room (λ l a. rw (after-none R l) (column (omega arith) (H l a))) e in
-      record { as-long = f .as-long; holds = λ l a. column (omega arith) (f .holds l a) }
+  pivots-hold : (d k : ℕ) (s s′ : Table) (Q : ℕ → Row) → k + d ≡ n → 2 * (n * n + n) ≤ length (s .numbers) → HoldsAt k (s .numbers) Q → pivots lowestRow n d k s ≡ done s′ → Onward k n (s .numbers) (s′ .numbers) Q
+  unfolding pivots
+  pivots-hold zero k s s′ Q b room H e =
+      let f : k ≡ n = omega arith in
+      subst (λ (z : Table). Onward k n (s .numbers) (z .numbers) Q) (done-same e) (subst (λ m. Onward k m (s .numbers) (s .numbers) Q) f (record { as-long = refl; left = Q; holds = H; met = λ w q. ((λ m. m), (λ m. m)) }))
+  pivots-hold (suc d) k s s′ Q b room H e =
+      let a : k < n = omega arith in
+      let x = stepped lowestRow n d k s s′ e in
+      let f = step-holds d k s s′ Q a room H x in
+      let g = pivots-hold d (k + 1) _ s′ (f .left) (omega arith) (step-room n d k s s′ a room x) (f .holds) (x .rest) in record {
+        as-long = g .as-long ∙ f .as-long;
+        left = g .left;
+        holds = g .holds;
+        met = λ w q. let u = f .met w q in let v = g .met w q in ((λ m. v .0 (u .0 m)), (λ m. u .1 (v .1 m)));
+      }
+
+-- ---- from the whole rows to the triangle
+pub record Triangle (n : ℕ) (t t′ : List ℤ) (R : ℕ → Row) : Type 0 where
+  pub as-long : length t′ ≡ length t
+  pub left : ℕ → Row
+  pub holds : (l : ℕ) → l < n → Holds n t′ l l (left l)
+  pub met : (w : ℕ → ℤ) (q : ℤ) → ((l : ℕ) → l < n → Met n 0 (R l) w q) ↔ ((l : ℕ) → l < n → Met n l (left l) w q)
+
+pub forward-holds : (n : ℕ) (R : ℕ → Row) (s s′ : Table) → 2 * (n * n + n) ≤ length (s .numbers) → ((l : ℕ) → l < n → Holds n (s .numbers) l 0 (R l)) → forward lowestRow n s ≡ done s′ → Triangle n (s .numbers) (s′ .numbers) R
+unfolding forward HoldsAt
+forward-holds n R s s′ room H e =
+    let f = pivots-hold n n 0 s s′ R (omega arith) room (λ l a. column (omega arith) (H l a)) e in record {
+      as-long = f .as-long;
+      left = f .left;
+      holds = λ l a. column (omega arith) (f .holds l a);
+      met = λ w q. let m = f .met w q in (
+        (λ u l a. met-from n w q (omega arith) (m .0 (λ i b. met-from n w q (omega arith) (u i b)) l a)),
+        (λ u l a. met-from n w q (omega arith) (m .1 (λ i b. met-from n w q (omega arith) (u i b)) l a)),
+      );
+    }

@@ -1,88 +1,110 @@
--- The rows after some steps of elimination, and that weights meet the rows left at the end exactly if they meet those at the start.
+-- One step of elimination on exact rows: two rows change places, and the rows below the pivot's are reduced. Weights meet the rows after it
+-- exactly if they meet the rows before it.
 use mathlib.Core.Path.{_≡_, refl, subst}
 use mathlib.Core.Bool.{cond}
 use mathlib.Core.Logic.{_↔_}
-use Prim.Native.Nat.{ℕ, zero, suc, _+_, _-_, _≤_, _<_, min}
+use Prim.Native.Nat.{ℕ, _+_, _≤_, _<_, min}
 use native.Mathlib.Omega.{arith}
-use native.Mathlib.Numerals.{add-one}
-use native.Mathlib.Decide.{decLt}
+use native.Mathlib.Decide.{ℕ-discrete, decLt}
 use borrow.Author.Tests.{lt-ltb, le-ltb}
 use lib.Dec.{ltb}
 use lib.IntN.{ℤ, pos, _*ℤ_}
 use lib.Signed.{_<ℤ_}
 use Rattle.accuracy.proofs.Row.{Row, Met, reduce, met-reduced, met-unreduced}
 
--- row l after the steps 0, .., k − 1; step k changes the rows below row k
-unfoldable pub after : (ℕ → Row) → (k l : ℕ) → Row
-after R zero l = R l
-after R (suc k) l = cond (ltb k l) (reduce k (after R k k) (after R k l)) (after R k l)
+-- ---- which row stands at l once the rows k and p have changed places
+atBy : (k p l : ℕ) → Dec (l ≡ k) → Dec (l ≡ p) → ℕ
+atBy k p l (yes e) d = p
+atBy k p l (no e) (yes f) = k
+atBy k p l (no e) (no f) = l
 
-module _ (R : ℕ → Row) where
-  pub after-none : (l : ℕ) → after R 0 l ≡ R l
-  unfolding after
-  after-none l = refl
+pub rowAt : (k p l : ℕ) → ℕ
+rowAt k p l = atBy k p l (ℕ-discrete l k) (ℕ-discrete l p)
 
-  pub after-below : (k l : ℕ) → k < l → after R (k + 1) l ≡ reduce k (after R k k) (after R k l)
-  unfolding after
-  after-below k l h = rw (add-one, lt-ltb k l h)
+record Exchange (k p l m : ℕ) : Type 0 where
+  back : rowAt k p m ≡ l
+  low : min m k ≡ min l k
+  inside : (n : ℕ) → k < n → p < n → l < n → m < n
 
-  pub after-above : (k l : ℕ) → l ≤ k → after R (k + 1) l ≡ after R k l
-  unfolding after
-  after-above k l h = rw (add-one, le-ltb k l h)
+exchange : (k p l : ℕ) → k ≤ p → Exchange k p l (rowAt k p l)
+unfolding rowAt atBy
+exchange k p l h = go (ℕ-discrete l k) (ℕ-discrete l p)
+  where
+    at-p : (d : Dec (p ≡ k)) (f : Dec (p ≡ p)) → atBy k p p d f ≡ k
+    at-p (yes e) f = e
+    at-p (no e) (yes f) = refl
+    at-p (no e) (no f) = absurd (f refl)
 
-  -- the pivot's row stands
-  pub after-pivot : (d k : ℕ) → after R (k + d) k ≡ after R k k
-  after-pivot zero k = let e : k + 0 ≡ k = omega arith in rw e
-  after-pivot (suc d) k = let e : k + suc d ≡ k + d + 1 = omega arith in rw (e, after-above (k + d) k (omega arith)) (after-pivot d k)
+    at-k : (d : Dec (k ≡ k)) (f : Dec (k ≡ p)) → atBy k p k d f ≡ p
+    at-k (yes e) f = refl
+    at-k (no e) f = absurd (e refl)
+
+    other : (l ≡ k → ⊥) → (l ≡ p → ⊥) → (d : Dec (l ≡ k)) (f : Dec (l ≡ p)) → atBy k p l d f ≡ l
+    other a b (yes e) f = absurd (a e)
+    other a b (no e) (yes f) = absurd (b f)
+    other a b (no e) (no f) = refl
+
+    go : (d : Dec (l ≡ k)) (f : Dec (l ≡ p)) → Exchange k p l (atBy k p l d f)
+    go (yes e) f = rw e (record { back = at-p (ℕ-discrete p k) (ℕ-discrete p p); low = omega arith; inside = λ n a b c. b })
+    go (no e) (yes f) = rw f (record { back = at-k (ℕ-discrete k k) (ℕ-discrete k p); low = omega arith; inside = λ n a b c. a })
+    go (no e) (no f) = record { back = other e f (ℕ-discrete l k) (ℕ-discrete l p); low = refl; inside = λ n a b c. c }
+
+-- by which of the two it is
+pub rowAt-cases : (P : ℕ → ℕ → Type 0) (k p l : ℕ) → (l ≡ k → P l p) → (l ≡ p → P l k) → ((l ≡ k → ⊥) → (l ≡ p → ⊥) → P l l) → P l (rowAt k p l)
+unfolding rowAt atBy
+rowAt-cases P k p l a b c = go (ℕ-discrete l k) (ℕ-discrete l p)
+  where
+    go : (d : Dec (l ≡ k)) (f : Dec (l ≡ p)) → P l (atBy k p l d f)
+    go (yes e) f = a e
+    go (no e) (yes f) = b f
+    go (no e) (no f) = c e f
+
+-- row l, if the rows below row k are reduced by it
+pub reducedAt : (k : ℕ) → (ℕ → Row) → ℕ → Row
+reducedAt k Q l = cond (ltb k l) (reduce k (Q k) (Q l)) (Q l)
+
+module _ (k : ℕ) (Q : ℕ → Row) (l : ℕ) where
+  pub reduced-below : k < l → reducedAt k Q l ≡ reduce k (Q k) (Q l)
+  unfolding reducedAt
+  reduced-below h = rw (lt-ltb k l h)
+
+  pub reduced-above : l ≤ k → reducedAt k Q l ≡ Q l
+  unfolding reducedAt
+  reduced-above h = rw (le-ltb k l h)
 
 -- ---- the weights
-module _ (n : ℕ) (R : ℕ → Row) (w : ℕ → ℤ) (q : ℤ) where
+module _ (n : ℕ) (w : ℕ → ℤ) (q : ℤ) where
   -- after k steps a row begins at its diagonal or, below the last pivot, at column k
-  MetAfter : ℕ → Type 0
-  MetAfter k = (l : ℕ) → l < n → Met n (min l k) (after R k l) w q
+  abbrev pub MetAt : ℕ → (ℕ → Row) → Type 0
+  MetAt k Q = (l : ℕ) → l < n → Met n (min l k) (Q l) w q
 
-  from : {r : Row} {s s′ : ℕ} → s ≡ s′ → Met n s r w q → Met n s′ r w q
-  from {r} e m = subst (λ s. Met n s r w q) e m
+  pub met-exchanged : (k p : ℕ) → k ≤ p → p < n → (Q : ℕ → Row) → MetAt k Q ↔ MetAt k (λ l. Q (rowAt k p l))
+  met-exchanged k p h b Q = (
+    (λ m l a. let x = exchange k p l h in subst (λ s. Met n s (Q (rowAt k p l)) w q) (x .low) (m (rowAt k p l) (x .inside n (omega arith) b a))),
+    (λ m l a.
+        let x = exchange k p l h in
+        subst (λ s. Met n s (Q l) w q) (x .low) (subst (λ i. Met n (min (rowAt k p l) k) (Q i) w q) (x .back) (m (rowAt k p l) (x .inside n (omega arith) b a)))),
+  )
 
-  module _ (k : ℕ) (b : k < n) where
-    met-step : MetAfter k → MetAfter (k + 1)
-    unfolding MetAfter
-    met-step m l h = go (decLt k l)
-      where
-        go : Dec (k < l) → Met n (min l (k + 1)) (after R (k + 1) l) w q
-        go (yes f) = rw (after-below R k l f) (from (omega arith) (met-reduced (from (omega arith) (m k b)) (from (omega arith) (m l h))))
-        go (no f) = rw (after-above R k l (omega (arith, f))) (from (omega (arith, f)) (m l h))
+  pub met-from : {r : Row} {s s′ : ℕ} → s ≡ s′ → Met n s r w q → Met n s′ r w q
+  met-from {r} e m = subst (λ s. Met n s r w q) e m
 
-    met-unstep : pos 0 <ℤ (after R k k .left k *ℤ after R k k .left k) → MetAfter (k + 1) → MetAfter k
-    unfolding MetAfter
-    met-unstep above m l h = go (decLt k l)
-      where
-        pivot : Met n k (after R k k) w q
-        pivot = from (omega arith) (rw (after-above R k k (omega arith)) at (m k b))
+  pub met-step : (k : ℕ) → k < n → (Q : ℕ → Row) → pos 0 <ℤ (Q k .left k *ℤ Q k .left k) → MetAt k Q ↔ MetAt (k + 1) (reducedAt k Q)
+  met-step k b Q above = (there, back)
+    where
+      there : MetAt k Q → MetAt (k + 1) (reducedAt k Q)
+      there m l h = go (decLt k l)
+        where
+          go : Dec (k < l) → Met n (min l (k + 1)) (reducedAt k Q l) w q
+          go (yes f) = rw (reduced-below k Q l f) (met-from (omega arith) (met-reduced (met-from (omega arith) (m k b)) (met-from (omega arith) (m l h))))
+          go (no f) = rw (reduced-above k Q l (omega (arith, f))) (met-from (omega (arith, f)) (m l h))
 
-        go : Dec (k < l) → Met n (min l k) (after R k l) w q
-        go (yes f) = from (omega arith) (met-unreduced pivot b above (from (omega arith) (rw (after-below R k l f) at (m l h))))
-        go (no f) = from (omega (arith, f)) (rw (after-above R k l (omega (arith, f))) at (m l h))
+      back : MetAt (k + 1) (reducedAt k Q) → MetAt k Q
+      back m l h = go (decLt k l)
+        where
+          pivot : Met n k (Q k) w q
+          pivot = met-from (omega arith) (rw (reduced-above k Q k (omega arith)) at (m k b))
 
-  -- e·e of each pivot e, which stands to the end
-  module _ (above : (k : ℕ) → k < n → pos 0 <ℤ (after R n k .left k *ℤ after R n k .left k)) where
-    at-step : (k : ℕ) → k < n → pos 0 <ℤ (after R k k .left k *ℤ after R k k .left k)
-    at-step k h =
-        let e : k + (n - k) ≡ n = omega arith in
-        let f : after R n k ≡ after R k k = rw e at (after-pivot R (n - k) k) in
-        rw f at (above k h)
-
-    met-steps : (k : ℕ) → k ≤ n → MetAfter 0 ↔ MetAfter k
-    met-steps zero h = ((λ m. m), (λ m. m))
-    met-steps (suc k) h =
-        let f = met-steps k (omega arith) in
-        let b : k < n = omega arith in
-        rw (← (add-one k)) ((λ m. met-step k b (f .0 m)), (λ m. f .1 (met-unstep k b (at-step k b) m)))
-
-    pub met-after : ((l : ℕ) → l < n → Met n 0 (R l) w q) ↔ ((l : ℕ) → l < n → Met n l (after R n l) w q)
-    unfolding MetAfter
-    met-after =
-        let f = met-steps n (omega arith) in (
-          (λ m l h. from (omega arith) (f .0 (λ i b. rw (after-none R i) (from (omega arith) (m i b))) l h)),
-          (λ m l h. rw (after-none R l) at (from {s′ = 0} (omega arith) (f .1 (λ i b. from (omega arith) (m i b)) l h))),
-        )
+          go : Dec (k < l) → Met n (min l k) (Q l) w q
+          go (yes f) = met-from (omega arith) (met-unreduced pivot b above (met-from (omega arith) (rw (reduced-below k Q l f) at (m l h))))
+          go (no f) = met-from (omega (arith, f)) (rw (reduced-above k Q l (omega (arith, f))) at (m l h))

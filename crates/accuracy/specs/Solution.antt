@@ -8,8 +8,8 @@ use Rattle.fraction.specs.Fraction.{Fraction, Inside, Same}
 use Rattle.inputs.specs.Place.{at}
 use Rattle.inputs.specs.System.{System}
 use Rattle.rows.specs.Exact.{exactRow}
-use Rattle.elimination.specs.Run.{cell}
-use Rattle.elimination.specs.Formed.{identity}
+use Rattle.forward.specs.Run.{cell}
+use Rattle.forward.specs.Formed.{identity}
 
 -- 'some choice of exact fractions inside the bounds of B and b', for a system that holds B and b
 pub record Choice (s : System) : Type 0 where

@@ -18,10 +18,11 @@ use Rattle.rows.specs.Sum.{singly}
 use Rattle.rows.proofs.Size.{Small, acceptable-small, difference-small, small-fits}
 use Rattle.rows.proofs.Sum.{singly-small}
 use Rattle.outcome.specs.Run.{Run, refused, done}
-use Rattle.elimination.specs.Run.{inRangeThen, cell, rhs}
+use Rattle.forward.specs.Run.{inRangeThen, cell, rhs}
 use Rattle.elimination.specs.Back.{numerator, back}
-use Rattle.elimination.specs.Code.{Working, Pivots, Placed, unknown, Solved}
-use Rattle.elimination.proofs.Index.{cell-before}
+use Rattle.forward.specs.Code.{Working, Pivots, Placed}
+use Rattle.elimination.specs.Code.{unknown, Solved}
+use Rattle.forward.proofs.Index.{cell-before}
 
 module _ (n i : ℕ) (t : List ℤ) where
   -- the code counts its positions from those of a(i,i) and f(i)

@@ -18,10 +18,12 @@ use Rattle.inputs.proofs.Tests.{both-pass, square}
 use Rattle.inputs.proofs.System.{size-stops, lengths-stop, sizes-go, Fitting, sizes-fitting, matrix-stops, right-last, Proper, parts-proper}
 use Rattle.inputs.proofs.Place.{sound-append, sound-noughts}
 use Rattle.rows.specs.Sum.{singly}
-use Rattle.elimination.specs.Forward.{forward}
+use Rattle.forward.specs.Pivot.{lowestRow}
+use Rattle.forward.specs.Forward.{Table, table, forward}
 use Rattle.elimination.specs.Back.{back}
-use Rattle.elimination.specs.Call.{copied, box, solved, tests}
-use Rattle.elimination.specs.Code.{Working, Ended}
+use Rattle.elimination.specs.Call.{copied, box, noneTaken, solved, tests}
+use Rattle.forward.specs.Code.{Working}
+use Rattle.elimination.specs.Code.{Ended}
 
 -- ---- the tests, one after the other, and what they say when they pass
 module _ (s : System) (l : ℕ) where
@@ -85,16 +87,16 @@ module _ (s : System) (l : ℕ) (r : Ready s l) where
 
 -- ---- the calculation from its parts
 module _ (n : ℕ) (t x : List ℤ) where
-  pub ended-forward : {o : Outcome} → forward n t ≡ refused o → Ended (solved singly n t) o x x
+  pub ended-forward : {o : Outcome} → forward lowestRow n (table t noneTaken) ≡ refused o → Ended (solved lowestRow singly n t) o x x
   unfolding solved andThen ended
   ended-forward e = record { is = rw e }
 
-  module _ {t₁ : List ℤ} (e : forward n t ≡ done t₁) where
-    pub ended-back : {o : Outcome} → back singly n n t₁ ≡ refused o → Ended (solved singly n t) o x x
+  module _ {s : Table} (e : forward lowestRow n (table t noneTaken) ≡ done s) where
+    pub ended-back : {o : Outcome} → back singly n n (s .numbers) ≡ refused o → Ended (solved lowestRow singly n t) o x x
     unfolding solved andThen ended
     ended-back f = record { is = rw (e, f) }
 
-    pub ended-done : {t₂ y : List ℤ} → back singly n n t₁ ≡ done t₂ → length x ≡ 2 * n → y ≡ take (length x) (drop (2 * (n * n)) t₂) → Ended (solved singly n t) outcome.Done x y
+    pub ended-done : {t₁ y : List ℤ} → back singly n n (s .numbers) ≡ done t₁ → length x ≡ 2 * n → y ≡ take (length x) (drop (2 * (n * n)) t₁) → Ended (solved lowestRow singly n t) outcome.Done x y
     unfolding solved andThen box ended
     ended-done f l g = record { is = rw (e, f, ← l, g) }
 

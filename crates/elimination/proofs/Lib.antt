@@ -1,10 +1,6 @@
-pub mod Index
-pub mod Value
-pub mod Run
-pub mod Kept
-pub mod Step
-pub mod Formed
-pub mod Forward
 pub mod Back
 pub mod Call
+pub mod Refused
 pub mod Accepted
+pub mod Same
+pub mod Five

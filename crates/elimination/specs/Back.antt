@@ -8,7 +8,7 @@ use Rattle.interval.specs.Interval.{exactDifference, quotient}
 use Rattle.inputs.specs.Place.{at, put}
 use Rattle.rows.specs.Sum.{RowSum}
 use Rattle.outcome.specs.Run.{Run, done}
-use Rattle.elimination.specs.Run.{inRangeThen, cell, rhs}
+use Rattle.forward.specs.Run.{inRangeThen, cell, rhs}
 
 -- x(j) stands in the place of f(j), for j > i
 unfoldable pub numerator : RowSum → (n i : ℕ) → List ℤ → Interval

@@ -1,6 +1,4 @@
-pub mod Run
-pub mod Forward
 pub mod Back
-pub mod Formed
 pub mod Call
+pub mod Claim
 pub mod Code

@@ -1,3 +1,4 @@
+pub mod claims;
 pub mod internal;
 
 use crate::internal::solve::solve;

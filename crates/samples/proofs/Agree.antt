@@ -9,10 +9,10 @@ use Rattle.interval.specs.Answer.{tested, ranged, divided}
 use Rattle.inputs.specs.Place.{at, put}
 use Rattle.inputs.specs.Tests as tests
 use Rattle.rows.specs.Sum.{summed, singly}
-use Rattle.elimination.specs.Run.{inRangeThen}
-use Rattle.elimination.specs.Forward.{pivoted, columns, rightSide, rows, pivots, forward}
+use Rattle.forward.specs.Run.{inRangeThen}
+use Rattle.forward.specs.Forward.{pivoted, columns, rightSide, rows, pivots, forward}
 use Rattle.elimination.specs.Back.{numerator, back}
-use Rattle.elimination.specs.Formed.{identity, formedRow, formedRows}
+use Rattle.forward.specs.Formed.{identity, formedRow, formedRows}
 use Rattle.elimination.specs.Call as elimination
 use Rattle.sweep.specs.Pass as pass
 use Rattle.sweep.specs.Call as swept

@@ -10,8 +10,8 @@ use Rattle.interval.specs.Interval.{ends, point, zero}
 use Rattle.interval.specs.Answer.{Answer, sumAnswer, productAnswer, quotientAnswer}
 use Rattle.inputs.specs.System.{System}
 use Rattle.inputs.specs.Place.{at}
-use Rattle.elimination.specs.Run.{cell}
-use Rattle.elimination.specs.Forward.{forward}
+use Rattle.forward.specs.Run.{cell}
+use Rattle.forward.specs.Forward.{forward}
 use Rattle.elimination.specs.Call.{copied, written, overA, overB}
 use Rattle.sweep.specs.Calls.{sweepCall, call}
 

@@ -1,5 +1,5 @@
-use crate::internal::Ending;
-use crate::internal::step::place;
+use forward::internal::Ending;
+use forward::internal::step::place;
 use inputs::internal::read;
 use interval::internal::difference;
 use interval::internal::in_range;
@@ -12,9 +12,10 @@ ghost use Prim.Native.Nat.{_<_};
 ghost use Rattle.interval.specs.Interval.{containsZero};
 ghost use Rattle.inputs.specs.Place.{at};
 ghost use Rattle.rows.specs.Sum.{singly};
-ghost use Rattle.elimination.specs.Run.{cell};
+ghost use Rattle.forward.specs.Run.{cell};
 ghost use Rattle.elimination.specs.Back.{back};
-ghost use Rattle.elimination.specs.Code.{Working, Pivots, Solved, Ran};
+ghost use Rattle.forward.specs.Code.{Working, Pivots, Ran};
+ghost use Rattle.elimination.specs.Code.{Solved};
 
 // x(i), in the place of f(i), if its numerator and it are in the range.
 fn unknown(n: usize, i: usize, t: &mut [i64]) -> bool

@@ -6,7 +6,7 @@ use lib.ListN.{length}
 use Rattle.inputs.specs.Code.{Sound}
 use Rattle.rows.specs.Sum.{singly}
 use Rattle.elimination.specs.Back.{back}
-use Rattle.elimination.specs.Code.{Pivots}
+use Rattle.forward.specs.Code.{Pivots}
 use Rattle.elimination.proofs.Back.{back-end, back-go, back-out, pivots-solved}
 use Rattle.elimination.proofs.internal.back.back.Statement.{statement}
 use Rattle.elimination.proofs.internal.back.back.Tie as tie

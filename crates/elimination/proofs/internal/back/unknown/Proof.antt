@@ -9,7 +9,7 @@ use Rattle.rows.specs.Sum.{singly}
 use Rattle.elimination.specs.Back.{numerator}
 use Rattle.elimination.specs.Code.{unknown}
 use Rattle.inputs.proofs.Tests.{rows-apart}
-use Rattle.elimination.proofs.Value.{quotient-order}
+use Rattle.forward.proofs.Value.{quotient-order}
 use Rattle.elimination.proofs.Back.{numerator-is, numerator-fits, numerator-accepted, solved-placed, solved-not}
 use Rattle.elimination.proofs.internal.back.unknown.Statement.{statement}
 use Rattle.elimination.proofs.internal.back.unknown.Tie as tie

@@ -6,8 +6,10 @@ use lib.IntN.{ℤ}
 use lib.ListN.{length}
 use Rattle.inputs.specs.System.{system}
 use Rattle.rows.specs.Sum.{singly}
+use Rattle.forward.specs.Pivot.{lowestRow}
 use Rattle.elimination.specs.Call.{copied, solved}
-use Rattle.elimination.specs.Code.{Working, Ended}
+use Rattle.forward.specs.Code.{Working}
+use Rattle.elimination.specs.Code.{Ended}
 use Rattle.elimination.proofs.Call.{Ready, ready, copied-fits, copied-working}
 use Rattle.elimination.proofs.internal.solve.solve.Statement.{statement}
 use Rattle.elimination.proofs.internal.solve.solve.Tie as tie
@@ -40,7 +42,7 @@ unfolding copied
 returns c =
     let p = c .before .before in
     let s = c .before .before .before .before .before .before .before .before in
-    subst (λ (t : List ℤ). Ended (solved singly (s .args .n) t) (p .finish .result) (now (s .args .bounds)) (p .finish .last .1 .1 .0)) (c .before .before .before .before .before .before .copy-in .ensures) (p .finish .ensures)
+    subst (λ (t : List ℤ). Ended (solved lowestRow singly (s .args .n) t) (p .finish .result) (now (s .args .bounds)) (p .finish .last .1 .1 .0)) (c .before .before .before .before .before .before .copy-in .ensures) (p .finish .ensures)
 
 pub solve-spec : {M : Type 1} → statement M
 solve-spec =

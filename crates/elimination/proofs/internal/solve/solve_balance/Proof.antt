@@ -4,11 +4,11 @@ use mathlib.Core.List.{List}
 use denote.Ref.{now}
 use lib.IntN.{ℤ}
 use lib.ListN.{length}
-use Rattle.elimination.specs.Formed.{formedRows}
+use Rattle.forward.specs.Formed.{formedRows}
 use Rattle.inputs.specs.System.{system}
 use Rattle.elimination.specs.Call.{copied}
-use Rattle.elimination.specs.Code.{Working, Ran}
-use Rattle.elimination.proofs.Step.{working-after, ran-done, ran-stop}
+use Rattle.forward.specs.Code.{Working, Ran}
+use Rattle.forward.proofs.Step.{working-after, ran-done, ran-stop}
 use Rattle.elimination.proofs.Call.{Ready, ready, copied-fits, copied-working, ended-stop, ended-on}
 use Rattle.elimination.proofs.internal.solve.solve_balance.Statement.{statement}
 use Rattle.elimination.proofs.internal.solve.solve_balance.Tie as tie

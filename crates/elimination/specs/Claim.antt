@@ -1,0 +1,45 @@
+-- Document 02, A1: when an elimination says 5, and what the search for a row changed.
+use mathlib.Core.Path.{_≡_}
+use mathlib.Core.Bool.{true}
+use mathlib.Core.Logic.{_↔_, _≢_}
+use mathlib.Core.List.{List}
+use Prim.Native.Nat.{ℕ, _+_, _≤_, _<_}
+use lib.IntN.{ℤ}
+use lib.ListN.{length}
+use Rattle.outcome.specs.Run.{done, Returned}
+use Rattle.interval.specs.Interval.{containsZero}
+use Rattle.inputs.specs.declared.Test.the-variants.{Pass}
+use Rattle.inputs.specs.Place.{at}
+use Rattle.inputs.specs.System.{System}
+use Rattle.forward.specs.Run.{cell}
+use Rattle.forward.specs.Pivot.{lowestRow, inPlace}
+use Rattle.forward.specs.Forward.{Table, table, pivots}
+use Rattle.forward.specs.Formed.{formedRows}
+use Rattle.elimination.specs.Call.{copied, noneTaken, tests, endedA, endedB, overA, overB}
+
+-- ---- 'Refusal 5 is now given exactly if no such row exists'
+-- the steps before step k go to their end, and in what they leave every row from k on contains 0 in column k
+pub record NoRow (n k : ℕ) (t : List ℤ) : Type 0 where
+  pub below : k < n
+  pub left : Table
+  pub reached : pivots lowestRow n k 0 (table t noneTaken) ≡ done left
+  pub each : (i : ℕ) → k ≤ i → i < n → containsZero (at (left .numbers) (cell n i k)) ≡ true
+
+-- and so from I − B
+pub record NoRowOfB (s : System) (k : ℕ) : Type 0 where
+  pub formed : List ℤ
+  pub forms : formedRows (s .size) (s .size) 0 (copied s) ≡ done formed
+  pub noRow : NoRow (s .size) k formed
+
+-- 5, with the pivot's number from 1
+abbrev pub Five : Returned (List ℤ) → (k : ℕ) → Type 0
+Five r k = (r .number ≡ 5) × (r .place ≡ k + 1)
+
+pub record FiveExactly : Type 0 where
+  pub from-A : (s : System) (box : List ℤ) (k : ℕ) → Five (overA s box) k ↔ ((tests s (length box) ≡ Pass) × NoRow (s .size) k (copied s))
+  pub from-B : (s : System) (box : List ℤ) (k : ℕ) → Five (overB s box) k ↔ ((tests s (length box) ≡ Pass) × NoRowOfB s k)
+
+-- ---- 'A balance accepted before gets the same box': all is as before, unless 5 was said before
+pub record SameUnlessFive : Type 0 where
+  pub from-A : (s : System) (box : List ℤ) → endedA inPlace s box .number ≢ 5 → overA s box ≡ endedA inPlace s box
+  pub from-B : (s : System) (box : List ℤ) → endedB inPlace s box .number ≢ 5 → overB s box ≡ endedB inPlace s box

@@ -1,0 +1,9 @@
+pub mod Index
+pub mod Value
+pub mod Run
+pub mod Step
+pub mod Pivot
+pub mod Swap
+pub mod Kept
+pub mod Formed
+pub mod Forward
