@@ -71,10 +71,11 @@ enum KifwalebNumber {
     KIFWALEB_ENDS = 3,
     /* The sweeps allowed are 0 or above 10,000. Place 0. */
     KIFWALEB_ALLOWED = 4,
-    /* The divisor contains 0, its ends included. The place is the pivot; in a
-     * single step 0. */
+    /* The divisor contains 0, its ends included. In an elimination the place is the
+     * step that finds no row without 0 in its column; in a single step it is 0. */
     KIFWALEB_CONTAINS_ZERO = 5,
-    /* A result is out of the range. The place is the row; in a single step 0. */
+    /* A result is out of the range. The place is the row, after the swaps so far; in
+     * a single step 0. */
     KIFWALEB_OUT_OF_RANGE = 6,
     /* The start box holds no solution. The place is the vat at which that was
      * found. */
@@ -132,15 +133,17 @@ KifwalebStep kifwaleb_product(int64_t a_lo, int64_t a_hi, int64_t b_lo, int64_t 
 KifwalebStep kifwaleb_quotient(int64_t a_lo, int64_t a_hi, int64_t b_lo, int64_t b_hi);
 
 /*
- * Bounds on each component of the solutions x of A*x = f, by elimination without
- * pivot search. Takes n, the matrix a, the right side f, and a box for the bounds;
- * what the box holds before does not matter.
+ * Bounds on each component of the solutions x of A*x = f, by elimination. At each
+ * step k, the lowest row from k on whose entry in column k does not contain 0 is
+ * swapped with row k; components keep their numbers. Takes n, the matrix a, the
+ * right side f, and a box for the bounds; what the box holds before does not matter.
  * DONE, and the bounds are written to the box; else the first of
  *   SIZE;
  *   LENGTH, the place says which slice;
  *   ENDS, the place counts through matrix and right side;
- *   CONTAINS_ZERO with the pivot, or OUT_OF_RANGE with the row, whichever the
- *   calculation meets first.
+ *   CONTAINS_ZERO with the step, if every row from it on contains 0 in its column,
+ *   or OUT_OF_RANGE with the row, by its place after the swaps so far, whichever
+ *   the calculation meets first.
  * The count is 0.
  */
 KifwalebOutcome kifwaleb_eliminate(size_t n,

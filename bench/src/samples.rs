@@ -85,7 +85,7 @@ mod tests {
     use super::*;
     use crate::archive::Archive;
     use crate::case::Slices;
-    use crate::reference::{calculate, Operation, Outcome, Stop};
+    use crate::reference::{calculate, Operation, Outcome};
     use crate::side::{Flat, Reference};
 
     #[test]
@@ -131,8 +131,8 @@ mod tests {
         let copy = calculate(Call::Eliminate, arrow).copy.unwrap();
         assert_eq!(copy.a(3, 3), Interval::new(-7_500_000, -500_000));
         let trace = calculate(Call::Eliminate, exchanged);
-        assert_eq!(trace.end, Err(Stop::Pivot { k: 2 }));
-        let pivot = trace.copy.unwrap().a(2, 2);
-        assert_eq!(pivot, Interval::new(-6_000_000, 1_000_000));
+        assert_eq!(trace.swaps, [2]);
+        let pivot = trace.copy.unwrap().a(3, 3);
+        assert_eq!(pivot, Interval::new(333_332, 5_000_000));
     }
 }

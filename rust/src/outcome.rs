@@ -47,9 +47,9 @@ pub enum Refusal {
     Ends(usize),
     /// The sweeps allowed are 0 or above 10,000.
     Allowed,
-    /// This pivot contains 0.
+    /// In this step no row can serve: each from it on contains 0 in its column.
     ContainsZero(usize),
-    /// A result of this row is out of the range.
+    /// A result of this row, by its place after the swaps so far, is out of the range.
     OutOfRange(usize),
     /// The start box holds no solution, as was found at this vat.
     Empty(usize),

@@ -41,8 +41,9 @@ macro_rules! lend {
     };
 }
 
-/// Writes bounds on each component of the solutions of A·x = f, by elimination
-/// without pivot search. What `bounds` holds before does not matter.
+/// Writes bounds on each component of the solutions of A·x = f, by elimination: at
+/// each step k, the lowest row from k on without 0 in column k is swapped with row k.
+/// What `bounds` holds before does not matter.
 ///
 /// ```
 /// use kifwaleb::{eliminate, Outcome};

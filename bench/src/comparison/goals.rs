@@ -20,7 +20,18 @@ pub fn of_elimination(call: Call) -> Vec<Goal> {
     let mut goals = vec![Goal::at("0 for n", 1..=MOST_EQUATIONS)];
     goals.extend(sizes_and_lengths());
     goals.extend(refused_systems(call));
+    goals.push(Goal::at("a swap at step", 1..=MOST_EQUATIONS - 1));
+    goals.extend([0, 5, 6].map(|number| Goal::at(after_swaps(number), 1..=3)));
     goals
+}
+
+/// By the number of swaps, 3 for all greater ones.
+pub fn after_swaps(number: u64) -> &'static str {
+    match number {
+        0 => "0 after swaps",
+        5 => "5 after swaps",
+        _ => "6 after swaps",
+    }
 }
 
 fn sizes_and_lengths() -> [Goal; 2] {

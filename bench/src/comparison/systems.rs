@@ -1,6 +1,6 @@
 //! Comparing eliminations.
 
-use super::goals::stopped;
+use super::goals::{after_swaps, stopped};
 use super::lent::difference;
 use super::{Tally, Trial};
 use crate::case::Case;
@@ -30,6 +30,13 @@ impl Trial for Elimination {
             Err(stop) => stopped(n, stop),
         };
         tally.reach(goal, place);
+        for step in &trace.swaps {
+            tally.reach("a swap at step", *step);
+        }
+        match trace.swaps.len() {
+            0 => (),
+            swaps => tally.reach(after_swaps(expected.outcome.number), swaps.min(3)),
+        }
         Ok(())
     }
 }

@@ -45,16 +45,25 @@ fn form(n: usize, b_matrix: &[i64], b: &[i64]) -> Result<Vec<Interval>, Outcome>
 
 fn reduce(n: usize, rows: &mut [Interval]) -> Result<(), Outcome> {
     for k in 0..n {
+        take_row(n, rows, k).ok_or(Outcome::new(ZERO_DIVISOR, k as u64 + 1))?;
         let (above, below) = rows.split_at_mut((k + 1) * (n + 1));
         let upper = &above[k * (n + 1) + k..];
-        if upper[0].contains_zero() {
-            return Err(Outcome::new(ZERO_DIVISOR, k as u64 + 1));
-        }
         for (i, row) in below.chunks_exact_mut(n + 1).enumerate() {
             reduce_row(upper, &mut row[k..]).ok_or(out_of_range(k + 1 + i))?;
         }
     }
     Ok(())
+}
+
+/// The first row from k on without 0 in column k changes places with row k.
+fn take_row(n: usize, rows: &mut [Interval], k: usize) -> Option<()> {
+    let width = n + 1;
+    let row = (k..n).find(|i| !rows[i * width + k].contains_zero())?;
+    if row != k {
+        let (above, below) = rows.split_at_mut(row * width);
+        above[k * width + k..][..width - k].swap_with_slice(&mut below[k..width]);
+    }
+    Some(())
 }
 
 /// Both rows begin at the pivot's column.

@@ -1,4 +1,5 @@
-//! The two elimination calls of document 01, written from its words alone.
+//! The two elimination calls of document 01, with the row swaps of document 02's
+//! A1, written from their words alone.
 
 use super::interval::{rounded_product, rounded_quotient, Interval, WideInterval, SCALE};
 use super::outcome::{Outcome, Phase, Stop};
@@ -28,9 +29,10 @@ impl Call {
 #[derive(Clone, Debug)]
 pub struct Trace {
     /// The own copy as the calculation left it, if it began. From the diagonal
-    /// on, a row stands as it did when its pivot was tested; left of the
-    /// diagonal stands what each factor was made from.
+    /// on, a row stands as it did when its pivot was taken.
     pub copy: Option<System>,
+    /// The steps that swapped rows.
+    pub swaps: Vec<usize>,
     pub end: Result<Vec<Interval>, Stop>,
 }
 
@@ -51,6 +53,7 @@ pub fn trace(call: Call, n: usize, matrix: &[i64], right_side: &[i64], box_lengt
         Ok(system) => calculate(call, system),
         Err(stop) => Trace {
             copy: None,
+            swaps: Vec::new(),
             end: Err(stop),
         },
     }
@@ -58,9 +61,11 @@ pub fn trace(call: Call, n: usize, matrix: &[i64], right_side: &[i64], box_lengt
 
 /// The calculation of one call on intervals that have passed every test.
 pub fn calculate(call: Call, mut copy: System) -> Trace {
-    let end = run(call, &mut copy);
+    let mut swaps = Vec::new();
+    let end = run(call, &mut copy, &mut swaps);
     Trace {
         copy: Some(copy),
+        swaps,
         end,
     }
 }
@@ -82,11 +87,11 @@ impl Trace {
     }
 }
 
-fn run(call: Call, copy: &mut System) -> Result<Vec<Interval>, Stop> {
+fn run(call: Call, copy: &mut System, swaps: &mut Vec<usize>) -> Result<Vec<Interval>, Stop> {
     if call == Call::EliminateBalance {
         form_from_balance(copy)?;
     }
-    reduce(copy)?;
+    reduce(copy, swaps)?;
     substitute_back(copy)
 }
 
@@ -104,23 +109,27 @@ fn form_from_balance(copy: &mut System) -> Result<(), Stop> {
     Ok(())
 }
 
-fn reduce(copy: &mut System) -> Result<(), Stop> {
+/// Step n has no rows below it, but it takes its pivot too.
+fn reduce(copy: &mut System, swaps: &mut Vec<usize>) -> Result<(), Stop> {
     let n = copy.size();
-    for k in 1..n {
-        test_pivot(copy, k)?;
+    for k in 1..=n {
+        let row = lowest_row(copy, k)?;
+        if row != k {
+            copy.exchange_rows(k, row);
+            swaps.push(k);
+        }
         for i in k + 1..=n {
             reduce_row(copy, k, i)?;
         }
     }
-    test_pivot(copy, n)
+    Ok(())
 }
 
-fn test_pivot(copy: &System, k: usize) -> Result<(), Stop> {
-    if copy.a(k, k).contains_zero() {
-        Err(Stop::Pivot { k })
-    } else {
-        Ok(())
-    }
+/// The first row from k on, as they now stand, that has no 0 in column k.
+fn lowest_row(copy: &System, k: usize) -> Result<usize, Stop> {
+    let mut rows = k..=copy.size();
+    let found = rows.find(|i| !copy.a(*i, k).contains_zero());
+    found.ok_or(Stop::Pivot { k })
 }
 
 /// Takes from row i so many times row k; a(i,k) itself is not used again.
@@ -203,6 +212,30 @@ mod tests {
         assert_eq!(solve(3, &points(a), &f), Err((6, 3)));
         a[2] = 0;
         assert_eq!(solve(3, &points(a), &f), Err((5, 2)));
+    }
+
+    /// Rows 1 and 2 change places, then rows 2 and 3: the weights keep theirs.
+    #[test]
+    fn rows_are_swapped_and_weights_keep_their_places() {
+        let a = points([0, 0, 2 * ONE, 4 * ONE, 0, 0, 0, ONE, 0]);
+        let f = points([6 * ONE, 4 * ONE, 2 * ONE]);
+        assert_eq!(solve(3, &a, &f), Ok(points([ONE, 2 * ONE, 3 * ONE])));
+    }
+
+    /// [0, 0.200001] is row 1 as lent, and row 2 once it has been swapped.
+    #[test]
+    fn a_refusal_names_the_row_by_its_new_place() {
+        let a = [0, 200_001, 0, 0, 100, 100, ONE, ONE];
+        assert_eq!(solve(2, &a, &points([0, 0])), Err((6, 2)));
+    }
+
+    /// The first row that serves is taken, though the second one is greater.
+    #[test]
+    fn the_lowest_row_that_serves_is_taken() {
+        let a = points([0, ONE, 0, 3 * ONE, 0, 0, 4 * ONE, 0, ONE]);
+        let f = points([0, ONE, 0]);
+        let x = vec![333_333, 333_334, 0, 0, -1_333_334, -1_333_333];
+        assert_eq!(solve(3, &a, &f), Ok(x));
     }
 
     #[test]

@@ -53,6 +53,12 @@ impl System {
         self.right_side[i - 1] = interval;
     }
 
+    pub fn exchange_rows(&mut self, first: usize, second: usize) {
+        let [upper, lower] = [first, second].map(|row| (row - 1) * self.n);
+        (0..self.n).for_each(|j| self.matrix.swap(upper + j, lower + j));
+        self.right_side.swap(first - 1, second - 1);
+    }
+
     /// Copies the lent numbers once they have passed every test.
     pub fn read(
         n: usize,

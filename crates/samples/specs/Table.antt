@@ -11,8 +11,10 @@ use Rattle.interval.specs.Answer.{Answer, sumAnswer, productAnswer, quotientAns
 use Rattle.inputs.specs.System.{System}
 use Rattle.inputs.specs.Place.{at}
 use Rattle.forward.specs.Run.{cell}
+use Rattle.forward.specs.Pivot.{lowestRow, inPlace}
 use Rattle.forward.specs.Forward.{forward}
-use Rattle.elimination.specs.Call.{copied, written, overA, overB}
+use Rattle.forward.specs.Forward.{table as start}
+use Rattle.elimination.specs.Call.{copied, noneTaken, written, endedA, overA, overB}
 use Rattle.sweep.specs.Calls.{sweepCall, call}
 
 -- the numbers of a list of intervals
@@ -56,7 +58,8 @@ stops over n number place = line (over (lent n)) (result number place 0 (lent n)
 
 -- the third pivot of a system of three, after the forward part
 abbrev thirdPivot : System → List ℤ → Result
-thirdPivot s X = ended written X (andThen (forward 3 (copied s)) (λ t. done (numbers (at t (cell 3 2 2) ∷ []))))
+thirdPivot s X =
+    ended written X (andThen (forward lowestRow 3 (start (copied s) noneTaken)) (λ t. done (numbers (at (t .numbers) (cell 3 2 2) ∷ []))))
 
 -- ---- a sweep call
 abbrev sweeps : System → (allowed : ℕ) → List ℤ → Result → Line
@@ -121,9 +124,12 @@ table =
     ∷ solves (overB (system 1 (ends (pos 100_000) (pos 200_000) ∷ []) (whole 9 ∷ []))) 1 (ends (pos 10_000_000) (pos 11_250_000) ∷ [])
     -- B(1,2) = B(2,1) = 0.5, other shares 0, b = (3, 0): 4 and 2
     ∷ solves (overB (system 2 (whole 0 ∷ half ∷ half ∷ whole 0 ∷ []) (whole 3 ∷ whole 0 ∷ []))) 2 (whole 4 ∷ whole 2 ∷ [])
-    -- Document 000, example 4.1: third pivot [−7.5, −0.5]. With rows and columns 2 and 3 exchanged: 5, place 2
+    -- Document 000, example 4.1: third pivot [−7.5, −0.5]. With rows and columns 2 and 3 exchanged: 5, place 2, before document 02's A1.
+    -- The exchanged sample 'is now accepted there, with third pivot [0.333332, 5]'
     ∷ solves (thirdPivot arrow) 1 (ends (negℤ (pos 7_500_000)) (negℤ (pos 500_000)) ∷ [])
-    ∷ stops (overA tridiagonal) 3 5 2
+    ∷ stops (endedA inPlace tridiagonal) 3 5 2
+    ∷ solves (thirdPivot tridiagonal) 1 (ends (pos 333_332) (pos 5_000_000) ∷ [])
+    ∷ solves (overA tridiagonal) 3 (whole 0 ∷ whole 0 ∷ whole 0 ∷ [])
     -- B, b of the program's input, start [0, 10] twice, 3 allowed: [3, 4.25], [1.5, 2.125], 9, count 3
     ∷ sweeps input 3 startsWide
     (result 9 0 3 (numbers (ends (pos 3_000_000) (pos 4_250_000) ∷ ends (pos 1_500_000) (pos 2_125_000) ∷ [])))

@@ -31,7 +31,7 @@ struct Style {
 
 /// A system of any kind.
 pub fn any(random: &mut Random, n: usize) -> System {
-    match random.below(16) {
+    match random.below(24) {
         0..=5 => dominant(random, n),
         6 | 7 => shares(random, n),
         8 | 9 => triangular(random, n),
@@ -40,7 +40,9 @@ pub fn any(random: &mut Random, n: usize) -> System {
         12 => arrow(random, n),
         13 => cancelling(random, n),
         14 => sparse(random, n),
-        _ => free(random, n),
+        15 => free(random, n),
+        16..=20 => shuffled(random, n),
+        _ => holed(random, n),
     }
 }
 
@@ -166,20 +168,38 @@ fn permuted(random: &mut Random, n: usize) -> System {
     for _ in 0..random.between(1, 3) {
         let first = random.between(1, n as i64) as usize;
         let second = random.between(1, n as i64) as usize;
-        exchange_rows(&mut system, first, second);
+        system.exchange_rows(first, second);
     }
     system
 }
 
-fn exchange_rows(system: &mut System, first: usize, second: usize) {
-    for j in 1..=system.size() {
-        let (upper, lower) = (system.a(first, j), system.a(second, j));
-        system.set_a(first, j, lower);
-        system.set_a(second, j, upper);
+/// Rows of a triangle, one moved to the end or all in any sequence: many steps have
+/// to look for their row, and some swaps undo others.
+fn shuffled(random: &mut Random, n: usize) -> System {
+    let mut system = triangular(random, n);
+    let moved = random.between(1, n as i64) as usize;
+    if random.once_in(2) {
+        (moved..n).for_each(|i| system.exchange_rows(i, i + 1));
+    } else {
+        for i in 2..=n {
+            let other = random.between(1, i as i64) as usize;
+            system.exchange_rows(i, other);
+        }
     }
-    let (upper, lower) = (system.f(first), system.f(second));
-    system.set_f(first, lower);
-    system.set_f(second, upper);
+    system
+}
+
+/// Some diagonal entries contain 0, in any way.
+fn holed(random: &mut Random, n: usize) -> System {
+    let mut system = dominant(random, n);
+    for i in 1..=n {
+        if random.once_in(3) {
+            let below = random.pick(&[0, 0, 1, 1_000, ONE]);
+            let above = random.pick(&[0, 0, 1, 1_000, ONE]);
+            system.set_a(i, i, Interval::new(-below, above));
+        }
+    }
+    system
 }
 
 /// Whole and half numbers: exact results, and pivots that are exactly 0.

@@ -62,6 +62,7 @@ pub fn spots(n: usize) -> Vec<Spot> {
         found.extend(quotients(i));
         found.extend(formings(i));
         for k in chosen(n, 1, i - 1) {
+            found.extend(swaps(k, i));
             found.extend(factors(k, i));
             found.extend(right_sides(k, i));
             for j in chosen(n, k + 1, n) {
@@ -90,6 +91,17 @@ fn chosen(n: usize, first: usize, last: usize) -> Vec<usize> {
 fn pivots(k: usize) -> impl Iterator<Item = Spot> {
     let spot_of = move |pivot: &Interval| spot(&[Setting::A(k, k, *pivot), f(k, 0)]);
     PIVOTS.iter().map(spot_of)
+}
+
+/// Row i serves where row k does not; or its factor, named by its new place, leaves
+/// the range.
+fn swaps(k: usize, i: usize) -> impl Iterator<Item = Spot> {
+    let rows = [a(i, k, 100), a(i, i, 0), a(k, i, ONE)];
+    let pivots = [0, 1, 200_000, 200_001];
+    pivots.into_iter().map(move |hi| {
+        let pivot = Setting::A(k, k, Interval::new(0, hi));
+        spot(&[&[pivot, f(k, 0), f(i, 0)], &rows[..]].concat())
+    })
 }
 
 /// The factor meets only noughts; its test must not depend on that.
@@ -217,6 +229,18 @@ mod tests {
                 for l in j + 1..=4 {
                     assert_halved(cancelling_numerators(i, j, l), Phase::Numerator, i);
                 }
+            }
+        }
+    }
+
+    /// The row that comes to place i is at the limit, or past it.
+    #[test]
+    fn swapped_rows_are_named_by_their_new_place() {
+        for i in 2..=4 {
+            for k in 1..i {
+                let (phase, row) = (Phase::Factor, i);
+                let stop = Stop::OutOfRange { phase, row };
+                assert_eq!(planted(swaps(k, i), stop), [1, 3, 4]);
             }
         }
     }

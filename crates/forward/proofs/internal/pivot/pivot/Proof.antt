@@ -47,7 +47,7 @@ swap-requires : tie.Need-swap-requires
 swap-requires c κs = let i = c .before .before in let s = start i in (s .pre .0, s .pre .1, serving i .below)
 
 cast-taken : tie.Need-cast-taken
-cast-taken c = let i = c .before .before .before .before in omega (arith, serving i .below, start i .pre .0 .few)
+cast-taken c = let i = c .before .before .before .before in omega (arith, serving i .below, start i .pre .1, start i .pre .0 .few)
 
 mul-t13 : tie.Need-mul-t13
 mul-t13 c = search needs
