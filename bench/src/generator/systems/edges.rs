@@ -5,7 +5,7 @@ use super::spots::{spots, Spot};
 use super::{boxes, faults, small};
 use crate::case::Case;
 use crate::case_file::Entry;
-use crate::reference::{Call, System, MOST_EQUATIONS};
+use crate::reference::{Call, Interval, System, MOST_EQUATIONS};
 use crate::samples::{self, identity};
 use std::ops::RangeInclusive;
 
@@ -23,7 +23,8 @@ pub fn edge_cases(call: Call) -> impl Iterator<Item = Case> {
         .chain(faults::two_faulty_ends());
     let small = small::awkward_numbers()
         .chain(single_spots(1..=FEW))
-        .chain(pairs_of_spots());
+        .chain(pairs_of_spots())
+        .chain(rotated());
     let native = small::two_equations().map(|system| Case::new(&system));
     let great = single_spots(FEW + 1..=MOST_EQUATIONS);
     let cases = sampled(call)
@@ -59,6 +60,18 @@ fn planted(n: usize, spots: &[&Spot]) -> System {
     let mut system = identity(n);
     spots.iter().for_each(|spot| spot.plant(&mut system));
     system
+}
+
+/// Each row one place too early, so that every step but the last swaps rows. The entry
+/// of the last column is one, or nought, or too small for its right side.
+fn rotated() -> impl Iterator<Item = System> {
+    let every = (2..=MOST_EQUATIONS).flat_map(|n| [1_000_000, 0, 100].map(|last| (n, last)));
+    every.map(|(n, last)| {
+        let mut system = identity(n);
+        (1..n).for_each(|i| system.exchange_rows(i, i + 1));
+        system.set_a(n - 1, n, Interval::point(last));
+        system
+    })
 }
 
 /// All of them in the greatest systems and in small ones, some in the others.

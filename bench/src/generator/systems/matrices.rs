@@ -31,17 +31,18 @@ struct Style {
 
 /// A system of any kind.
 pub fn any(random: &mut Random, n: usize) -> System {
-    match random.below(24) {
+    match random.below(32) {
         0..=5 => dominant(random, n),
         6 | 7 => shares(random, n),
-        8 | 9 => triangular(random, n),
+        8 => triangular(random, n, true),
+        9 => triangular(random, n, false),
         10 => permuted(random, n),
         11 => small_numbers(random, n),
         12 => arrow(random, n),
         13 => cancelling(random, n),
         14 => sparse(random, n),
         15 => free(random, n),
-        16..=20 => shuffled(random, n),
+        16..=27 => shuffled(random, n),
         _ => holed(random, n),
     }
 }
@@ -149,9 +150,8 @@ fn shares(random: &mut Random, n: usize) -> System {
 }
 
 /// Nothing below the diagonal, or nothing above it.
-fn triangular(random: &mut Random, n: usize) -> System {
+fn triangular(random: &mut Random, n: usize, upper: bool) -> System {
     let mut system = dominant(random, n);
-    let upper = random.once_in(2);
     for i in 1..=n {
         for j in (1..=n).filter(|j| *j != i) {
             if (i > j) == upper {
@@ -176,7 +176,7 @@ fn permuted(random: &mut Random, n: usize) -> System {
 /// Rows of a triangle, one moved to the end or all in any sequence: many steps have
 /// to look for their row, and some swaps undo others.
 fn shuffled(random: &mut Random, n: usize) -> System {
-    let mut system = triangular(random, n);
+    let mut system = triangular(random, n, true);
     let moved = random.between(1, n as i64) as usize;
     if random.once_in(2) {
         (moved..n).for_each(|i| system.exchange_rows(i, i + 1));
