@@ -33,19 +33,21 @@ add-exchange : tie.Need-add-exchange Inv-loop μ-loop
 add-exchange c = let s = start (c .before) in omega (arith, c .before .loop-test .taken, s .pre .0 .few, row-small _ _ (s .pre .0 .few) (s .pre .1))
 
 mul-exchange-2 : tie.Need-mul-exchange-2 Inv-loop μ-loop
-mul-exchange-2 c = let s = start (c .before) in omega (arith, row-small _ _ (s .pre .0 .few) (s .pre .2))
+mul-exchange-2 c = let s = start (c .before) in omega (arith, row-small _ _ (s .pre .0 .few) (s .pre .1), row-small _ _ (s .pre .0 .few) (s .pre .2))
 
 add-exchange-2 : tie.Need-add-exchange-2 Inv-loop μ-loop
-add-exchange-2 c = let s = start (c .before) in omega (arith, c .before .loop-test .taken, s .pre .0 .few, row-small _ _ (s .pre .0 .few) (s .pre .2))
+add-exchange-2 c =
+    let s = start (c .before) in
+    omega (arith, c .before .loop-test .taken, s .pre .0 .few, row-small _ _ (s .pre .0 .few) (s .pre .1), row-small _ _ (s .pre .0 .few) (s .pre .2))
 
 exchange-requires : tie.Need-exchange-requires Inv-loop μ-loop
 exchange-requires c κs =
     let l = c .before in
     let s = start l in
-    let v = l .before .loop .inv in (
-      omega (arith, cell-before _ _ _ (s .pre .1) (l .loop-test .taken), s .pre .0 .room, v .2),
-      omega (arith, cell-before _ _ _ (s .pre .2) (l .loop-test .taken), s .pre .0 .room, v .2),
-    )
+    let v = l .before .loop .inv in
+    let k = cell-before _ _ _ (s .pre .1) (l .loop-test .taken) in
+    let i = cell-before _ _ _ (s .pre .2) (l .loop-test .taken) in
+    (omega (arith, k, i, s .pre .0 .room, v .2), omega (arith, k, i, s .pre .0 .room, v .2))
 
 add-j : tie.Need-add-j Inv-loop μ-loop
 add-j c = search needs
