@@ -31,7 +31,7 @@ struct Style {
 
 /// A system of any kind.
 pub fn any(random: &mut Random, n: usize) -> System {
-    match random.below(32) {
+    match random.below(40) {
         0..=5 => dominant(random, n),
         6 | 7 => shares(random, n),
         8 => triangular(random, n, true),
@@ -42,7 +42,7 @@ pub fn any(random: &mut Random, n: usize) -> System {
         13 => cancelling(random, n),
         14 => sparse(random, n),
         15 => free(random, n),
-        16..=27 => shuffled(random, n),
+        16..=33 => shuffled(random, n),
         _ => holed(random, n),
     }
 }
