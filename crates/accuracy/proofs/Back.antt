@@ -16,15 +16,14 @@ use Rattle.fraction.specs.Fraction.{Fraction, Inside, Same, millionths, differe
 use Rattle.fraction.proofs.Inside.{same-refl, same-sym, inside-same}
 use Rattle.fraction.proofs.Sum.{difference-inside}
 use Rattle.fraction.proofs.Quotient.{quotient-inside}
-use Rattle.inputs.specs.Place.{at, put}
-use Rattle.inputs.proofs.Place.{length-put, at-put-same, at-put-other}
+use Rattle.inputs.specs.Place.{at, put, cell}
+use Rattle.inputs.proofs.Place.{length-put, at-put-same, at-put-other, cell-before}
 use Rattle.rows.specs.Sum.{RowSum}
 use Rattle.rows.specs.Exact.{nought, exactRow, Encloses}
 use Rattle.outcome.specs.Run.{done}
-use Rattle.forward.specs.Run.{cell, rhs}
+use Rattle.forward.specs.Run.{rhs}
 use Rattle.elimination.specs.Back.{numerator, back}
 use Rattle.forward.specs.Code.{Pivots}
-use Rattle.forward.proofs.Index.{cell-before}
 use Rattle.forward.proofs.Run.{done-same, ranged}
 use Rattle.accuracy.proofs.Common.{ratio}
 use Rattle.accuracy.proofs.Row.{Row, dot, Holds, Met}

@@ -14,9 +14,9 @@ use Rattle.interval.specs.Interval.{scale, exactDifference}
 use Rattle.fraction.specs.Fraction.{Fraction, Inside, Same, difference}
 use Rattle.fraction.proofs.Inside.{same-sym, inside-same}
 use Rattle.fraction.proofs.Sum.{difference-inside}
-use Rattle.inputs.specs.Place.{at}
+use Rattle.inputs.specs.Place.{at, cell}
 use Rattle.rows.specs.Exact.{exactRow}
-use Rattle.forward.specs.Run.{cell, rhs}
+use Rattle.forward.specs.Run.{rhs}
 use Rattle.forward.specs.Formed.{identity}
 use Rattle.accuracy.proofs.Common.{ratio, cancel-same, same-trans, widen-same, own-same, Common, common}
 use Rattle.accuracy.proofs.Row.{dot, Row, Holds, Met, dot-difference}

@@ -10,14 +10,13 @@ use lib.Seq.{getD-take, getD-drop}
 use Rattle.interval.specs.declared.Interval.{Interval}
 use Rattle.interval.specs.Interval.{ends, exactDifference}
 use Rattle.interval.proofs.Range.{same-ends}
-use Rattle.inputs.specs.Place.{at}
+use Rattle.inputs.specs.Place.{at, cell}
 use Rattle.inputs.specs.System.{System}
-use Rattle.inputs.proofs.Place.{at-left, at-right}
-use Rattle.forward.specs.Run.{cell, rhs}
+use Rattle.inputs.proofs.Place.{at-left, at-right, cell-before, numbers-at}
+use Rattle.forward.specs.Run.{rhs}
 use Rattle.forward.specs.Formed.{identity}
 use Rattle.elimination.specs.Call.{copied, box}
-use Rattle.forward.proofs.Index.{cell-before}
-use Rattle.accuracy.specs.Solution.{numbers, balanceOf}
+use Rattle.accuracy.specs.Solution.{balanceOf}
 
 -- ---- the working copy: the matrix, then the right side
 module _ (s : System) (h : length (s .matrix) ≡ 2 * (s .size * s .size)) where
@@ -38,23 +37,6 @@ box-at n t j h = same-ends _ _ (go (2 * j) (2 * rhs n j) (omega arith) (omega ar
     go p q a e = getD-take (2 * n) (drop (2 * (n * n)) t) p (pos 0) a ∙ getD-drop (2 * (n * n)) t p (pos 0) ∙ ap (λ z. getD t z (pos 0)) e
 
 -- ---- the balance
-at-first : (a b : ℤ) (t : List ℤ) → at (a ∷ b ∷ t) 0 ≡ ends a b
-unfolding at
-at-first a b t = refl
-
-at-later : (a b : ℤ) (t : List ℤ) (p : ℕ) → at (a ∷ b ∷ t) (suc p) ≡ at t p
-unfolding at
-at-later a b t p =
-    let e : 2 * suc p ≡ suc (suc (2 * p)) = omega arith in
-    let f : 2 * suc p + 1 ≡ suc (suc (2 * p + 1)) = omega arith in
-    rw (f, e)
-
-numbers-at : (f : ℕ → Interval) (d p k : ℕ) → k < d → at (numbers f d p) k ≡ f (p + k)
-unfolding numbers
-numbers-at f zero p k h = absurd (omega arith)
-numbers-at f (suc d) p zero h = let e : p + 0 ≡ p = omega arith in rw e (at-first _ _ _)
-numbers-at f (suc d) p (suc k) h = let e : p + suc k ≡ p + 1 + k = omega arith in rw e (at-later _ _ _ k ∙ numbers-at f d (p + 1) k (omega arith))
-
 module _ (s : System) (i j : ℕ) (a : i < s .size) (b : j < s .size) where
   pub balance-cell : at (balanceOf s .matrix) (cell (s .size) i j) ≡ exactDifference (identity i j) (at (s .matrix) (cell (s .size) i j))
   unfolding balanceOf

@@ -12,21 +12,22 @@ use Rattle.fraction.specs.Fraction.{Fraction, Inside}
 use Rattle.fraction.proofs.Inside.{inside-same}
 use Rattle.inputs.specs.declared.Test.{Test}
 use Rattle.inputs.specs.declared.Test.the-variants.{Pass, Fail}
-use Rattle.inputs.specs.Place.{at}
+use Rattle.inputs.specs.Place.{at, cell}
 use Rattle.inputs.specs.Tests.{tested}
-use Rattle.inputs.specs.System.{System}
+use Rattle.inputs.specs.System.{System, tests}
+use Rattle.inputs.proofs.System.{ready}
 use Rattle.rows.specs.Sum.{RowSum, singly}
 use Rattle.rows.specs.Exact.{Encloses}
 use Rattle.rows.proofs.Enclosed.{singly-encloses}
 use Rattle.outcome.specs.Run.{Run, done}
-use Rattle.forward.specs.Run.{cell, rhs}
+use Rattle.forward.specs.Run.{rhs}
 use Rattle.forward.specs.Formed.{identity}
 use Rattle.forward.specs.Pivot.{lowestRow}
 use Rattle.forward.specs.Forward.{table}
-use Rattle.elimination.specs.Call.{copied, noneTaken, solved, tests, runA, runB}
+use Rattle.elimination.specs.Call.{copied, noneTaken, solved, runA, runB}
 use Rattle.forward.proofs.Run.{never, done-same, joined}
 use Rattle.forward.proofs.Kept.{forward-pivots}
-use Rattle.elimination.proofs.Call.{ready, copied-working}
+use Rattle.elimination.proofs.Call.{copied-working}
 use Rattle.accuracy.specs.Solution.{Solution, InBox, balanceOf}
 use Rattle.accuracy.proofs.Common.{ratio, common}
 use Rattle.accuracy.proofs.Row.{Row, Holds, Met}

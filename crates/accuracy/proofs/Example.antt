@@ -10,17 +10,18 @@ use Rattle.integer.specs.Extremes.{minimum, maximum}
 use Rattle.outcome.specs.Run.{andThen, ended}
 use Rattle.interval.specs.Interval.{scale, lowest, highest, within, inRange, acceptable, containsZero, exactDifference, quotientAt}
 use Rattle.fraction.specs.Fraction.{Fraction, Inside, Same, sum, productAt}
-use Rattle.inputs.specs.Place.{at, put}
+use Rattle.inputs.specs.Place.{at, put, cell, numbers}
 use Rattle.inputs.specs.Tests.{both, need, sized, lengths, sizes, proper, allProper, tested}
+use Rattle.inputs.specs.System.{tests}
 use Rattle.rows.specs.Sum.{summed, singly}
 use Rattle.rows.specs.Exact.{exactRow}
-use Rattle.forward.specs.Run.{inRangeThen, cell}
+use Rattle.forward.specs.Run.{inRangeThen}
 use Rattle.forward.specs.Pivot.{lowestFrom, lowestRow, exchanged, swappedColumns, swapped}
 use Rattle.forward.specs.Forward.{taking, rows, pivots, forward}
 use Rattle.elimination.specs.Back.{numerator, back}
-use Rattle.elimination.specs.Call.{copied, box, solved, tests, runA, overA}
+use Rattle.elimination.specs.Call.{copied, box, solved, runA, overA}
 use Rattle.forward.specs.Formed.{identity}
-use Rattle.accuracy.specs.Solution.{numbers, balanceOf}
+use Rattle.accuracy.specs.Solution.{balanceOf}
 use Rattle.accuracy.specs.Claim.{Accepted}
 use Rattle.accuracy.specs.Example.{fifth, weight, reached, Example}
 

@@ -18,10 +18,9 @@ use Rattle.interval.specs.Interval.{scale, exactDifference}
 use Rattle.interval.specs.Interval as interval
 use Rattle.interval.proofs.Range.{same-ends}
 use Rattle.fraction.specs.Fraction.{Inside}
-use Rattle.inputs.specs.Place.{at, put}
+use Rattle.inputs.specs.Place.{at, put, cell}
 use Rattle.inputs.proofs.Place.{length-put, at-put-other}
 use Rattle.outcome.specs.Run.{done}
-use Rattle.forward.specs.Run.{cell}
 use Rattle.forward.specs.Formed.{identity, formedRow, formedRows}
 use Rattle.inputs.proofs.Tests.{rows-apart}
 use Rattle.forward.proofs.Run.{done-same, joined, ranged}

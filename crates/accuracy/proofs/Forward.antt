@@ -11,14 +11,13 @@ use lib.ListN.{length}
 use Rattle.integer.proofs.Order.{both-pos}
 use Rattle.interval.specs.declared.Interval.{Interval}
 use Rattle.interval.specs.Interval.{containsZero, exactDifference, product, quotient}
-use Rattle.inputs.specs.Place.{at, put}
-use Rattle.inputs.proofs.Place.{length-put, at-put-same, at-put-other}
+use Rattle.inputs.specs.Place.{at, put, cell}
+use Rattle.inputs.proofs.Place.{length-put, at-put-same, at-put-other, cell-before}
 use Rattle.outcome.specs.Run.{done}
-use Rattle.forward.specs.Run.{cell, rhs}
+use Rattle.forward.specs.Run.{rhs}
 use Rattle.forward.specs.Pivot.{lowestRow, swapped}
 use Rattle.forward.specs.Forward.{Table, reduced, columns, rightSide, rows, pivots, forward}
 use Rattle.inputs.proofs.Tests.{rows-apart}
-use Rattle.forward.proofs.Index.{cell-before}
 use Rattle.forward.proofs.Run.{done-same, joined, ranged, Stepped, stepped}
 use Rattle.forward.proofs.Swap.{Swapped}
 use Rattle.forward.proofs.Kept.{step-serves, step-swapped, step-long, step-room, step-apart}

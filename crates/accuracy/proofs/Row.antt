@@ -18,8 +18,8 @@ use Rattle.fraction.proofs.Inside.{inside-same, inside-negated}
 use Rattle.fraction.proofs.Sum.{difference-inside}
 use Rattle.fraction.proofs.Product.{product-inside}
 use Rattle.fraction.proofs.Quotient.{quotient-inside}
-use Rattle.inputs.specs.Place.{at}
-use Rattle.forward.specs.Run.{cell, rhs}
+use Rattle.inputs.specs.Place.{at, cell}
+use Rattle.forward.specs.Run.{rhs}
 use Rattle.accuracy.proofs.Common.{ratio, cancel-same}
 
 -- c(j)·w(j) + c(j + 1)·w(j + 1) + .., d terms

@@ -8,13 +8,14 @@ use lib.Signed.{_≤ℤ_, _<ℤ_}
 use Rattle.integer.proofs.Linear.{linear, over}
 use Rattle.integer.proofs.Order.{also, prod, lt-le}
 use Rattle.interval.specs.declared.Interval.{Interval}
+use Rattle.interval.specs.Interval.{width}
 use Rattle.fraction.specs.Fraction.{Fraction, Inside}
 use Rattle.inputs.specs.Place.{at}
 use Rattle.inputs.specs.System.{System}
 use Rattle.elimination.proofs.Accepted.{accepted-A, accepted-B}
 use Rattle.sweep.specs.Calls.{changes}
 use Rattle.accuracy.specs.Solution.{Solution, InBox, balanceOf}
-use Rattle.accuracy.specs.Claim.{Start, lent, fromB, fromA, Covered, OffBy, width, Bounded, AccuracyRule}
+use Rattle.accuracy.specs.Claim.{Start, lent, fromB, fromA, Covered, OffBy, Bounded, AccuracyRule}
 use Rattle.accuracy.proofs.Elimination.{over-A, over-B}
 use Rattle.accuracy.proofs.Follows.{follows-refl}
 use Rattle.accuracy.proofs.Calls.{every-map, list-changes, list-empty}

@@ -6,23 +6,25 @@ use Prim.Native.Nat.{ℕ, zero, suc, _+_, _≤_}
 use native.Mathlib.Omega.{arith}
 use lib.IntN.{ℤ, pos, _+ℤ_, _-ℤ_}
 use lib.Signed.{_≤ℤ_, _<ℤ_, ltZ, ≤ℤ-refl, clashℤ}
+use Rattle.integer.specs.Total.{total}
 use Rattle.integer.proofs.Linear.{linear, over}
 use Rattle.integer.proofs.Order.{taken}
 use Rattle.interval.specs.declared.Interval.{Interval}
+use Rattle.interval.specs.Interval.{width}
 use Rattle.fraction.specs.Meaning.{Contains}
-use Rattle.inputs.specs.Place.{at}
+use Rattle.inputs.specs.Place.{at, widths}
 use Rattle.inputs.specs.System.{System}
 use Rattle.outcome.specs.Run.{done}
 use Rattle.sweep.specs.Pass.{differs, differ}
 use Rattle.sweep.specs.Call.{Log, stopped, settled, spent, swept}
-use Rattle.accuracy.specs.Claim.{width, Narrowed}
-use Rattle.accuracy.specs.Changing.{changing, widths, FewChanges}
+use Rattle.accuracy.specs.Claim.{Narrowed}
+use Rattle.accuracy.specs.Changing.{changing, FewChanges}
 use Rattle.accuracy.proofs.Follows.{Ordered}
 use Rattle.accuracy.proofs.Calls.{OnLog, OnRun, on-run}
 
 -- ---- sums of widths of boxes without an empty interval
 widths-above : {n : ℕ} {X : List ℤ} → Ordered n X → (d j : ℕ) → j + d ≤ n → pos 0 ≤ℤ widths X d j
-unfolding widths
+unfolding widths total
 widths-above o zero j h = ≤ℤ-refl (pos 0)
 widths-above {X = X} o (suc d) j h = go (at X j .lo) (at X j .hi) (widths X d (j + 1)) (o .each j (omega arith)) (widths-above o d (j + 1) (omega arith))
   where
@@ -58,7 +60,7 @@ module _ {v w : Interval} (h : Contains v w) where
 
 -- one unit for one or more components that changed
 widths-less : {n : ℕ} {X Y : List ℤ} → Narrowed n X Y → (d j : ℕ) → j + d ≤ n → (widths Y d j +ℤ one (differ X Y d j)) ≤ℤ widths X d j
-unfolding widths differ
+unfolding widths total differ
 widths-less h zero j l = ≤ℤ-refl (pos 0)
 widths-less {X = X} {Y} h (suc d) j l =
     go (differs (at X j) (at Y j)) (differ X Y d (j + 1)) (width (at X j)) (width (at Y j)) (widths X d (j + 1)) (widths Y d (j + 1))

@@ -8,11 +8,9 @@ use native.Mathlib.Decide.{ℕ-discrete}
 use lib.IntN.{ℤ}
 use lib.ListN.{length}
 use Rattle.interval.specs.declared.Interval.{Interval}
-use Rattle.inputs.specs.Place.{at, put}
-use Rattle.inputs.proofs.Place.{length-put, at-put-same, at-put-other}
+use Rattle.inputs.specs.Place.{at, put, cell}
+use Rattle.inputs.proofs.Place.{length-put, at-put-same, at-put-other, cell-before}
 use Rattle.outcome.specs.Run.{done}
-use Rattle.forward.specs.Run.{cell}
-use Rattle.forward.proofs.Index.{cell-before}
 use Rattle.forward.proofs.Run.{done-same}
 
 -- d cells of row i from column j on have changed from t to t′, that of column l to f t l

@@ -2,16 +2,15 @@
 use mathlib.Core.Path.{_≡_}
 use mathlib.Core.Bool.{cond}
 use mathlib.Core.List.{List}
-use Prim.Native.Nat.{ℕ, zero, suc, _+_}
-use lib.IntN.{ℤ, pos, _+ℤ_}
+use Prim.Native.Nat.{ℕ, _+_}
+use lib.IntN.{ℤ, pos}
 use lib.Signed.{_≤ℤ_}
 use Rattle.outcome.specs.Run.{done}
-use Rattle.inputs.specs.Place.{at}
+use Rattle.inputs.specs.Place.{widths}
 use Rattle.inputs.specs.System.{System}
 use Rattle.sweep.specs.Pass.{differ}
 use Rattle.sweep.specs.Call.{Log, stopped, settled, spent, swept}
 use Rattle.sweep.specs.Calls.{Call, run}
-use Rattle.accuracy.specs.Claim.{width}
 
 -- how many sweeps of a call leave another box of n components than the one before
 unfoldable pub changing : (n : ℕ) → Log → List ℤ → ℕ
@@ -19,11 +18,6 @@ changing n (stopped o) X = 0
 changing n settled X = 0
 changing n spent X = 0
 changing n (swept Y l) X = cond (differ X Y n 0) 1 0 + changing n l Y
-
--- the sum of the widths of the components j, j + 1, .., d of them
-unfoldable pub widths : List ℤ → (d j : ℕ) → ℤ
-widths X zero j = pos 0
-widths X (suc d) j = width (at X j) +ℤ widths X d (j + 1)
 
 -- for every call; one that its tests refuse has no sweeps
 abbrev pub FewChanges : Type 0

@@ -7,6 +7,7 @@ use lib.IntN.{ℤ, _-ℤ_, _*ℤ_}
 use lib.Signed.{_≤ℤ_}
 use Rattle.outcome.specs.Run.{Returned}
 use Rattle.interval.specs.declared.Interval.{Interval}
+use Rattle.interval.specs.Interval.{width}
 use Rattle.fraction.specs.Fraction.{Fraction, Inside}
 use Rattle.fraction.specs.Meaning.{Contains}
 use Rattle.inputs.specs.Place.{at}
@@ -36,10 +37,6 @@ Covered (fromA a box f e) x = Unit {0}
 pub record OffBy (w : ℤ) (a y : Fraction) : Type 0 where
   pub below : (y .num *ℤ a .den -ℤ a .num *ℤ y .den) ≤ℤ (w *ℤ (a .den *ℤ y .den))
   pub above : (a .num *ℤ y .den -ℤ y .num *ℤ a .den) ≤ℤ (w *ℤ (a .den *ℤ y .den))
-
--- 'A width is upper end less lower end'
-abbrev pub width : Interval → ℤ
-width v = v .hi -ℤ v .lo
 
 -- the weights lie in the box, and any figure inside the bounds of one is off from it by at most their width
 pub record Bounded (n : ℕ) (X : List ℤ) (x : ℕ → Fraction) : Type 0 where

@@ -1,14 +1,12 @@
 -- Document 01, The list in demand 3: what a solution of a balance is, and when it lies in a box.
-use mathlib.Core.List.{List, [], _∷_}
-use Prim.Native.Nat.{ℕ, zero, suc, _+_, _*_, _/_, _%_, _<_}
+use mathlib.Core.List.{List}
+use Prim.Native.Nat.{ℕ, _*_, _/_, _%_, _<_}
 use lib.IntN.{ℤ}
-use Rattle.interval.specs.declared.Interval.{Interval}
 use Rattle.interval.specs.Interval.{exactDifference}
 use Rattle.fraction.specs.Fraction.{Fraction, Inside, Same}
-use Rattle.inputs.specs.Place.{at}
+use Rattle.inputs.specs.Place.{at, cell, numbers}
 use Rattle.inputs.specs.System.{System}
 use Rattle.rows.specs.Exact.{exactRow}
-use Rattle.forward.specs.Run.{cell}
 use Rattle.forward.specs.Formed.{identity}
 
 -- 'some choice of exact fractions inside the bounds of B and b', for a system that holds B and b
@@ -32,10 +30,6 @@ pub record InBox (n : ℕ) (X : List ℤ) (x : ℕ → Fraction) : Type 0 where
   pub each : (j : ℕ) → j < n → Inside (at X j) (x j)
 
 -- 'Where A and f were lent, B is I − A and b is f'. The interval at position p stands in row p / n and column p % n
-unfoldable pub numbers : (ℕ → Interval) → (d p : ℕ) → List ℤ
-numbers f zero p = []
-numbers f (suc d) p = f p .lo ∷ f p .hi ∷ numbers f d (p + 1)
-
 unfoldable pub balanceOf : System → System
 balanceOf s =
     record {

@@ -11,18 +11,17 @@ use Rattle.interval.specs.declared.Interval.{Interval}
 use Rattle.interval.specs.Interval.{acceptable, containsZero, inRange, exactDifference}
 use Rattle.interval.specs.Code.{Representable}
 use Rattle.interval.proofs.Range.{accept}
-use Rattle.inputs.specs.Place.{at, put}
+use Rattle.inputs.specs.Place.{at, put, cell}
 use Rattle.inputs.specs.Code.{Sound}
-use Rattle.inputs.proofs.Place.{at-put-other}
+use Rattle.inputs.proofs.Place.{at-put-other, cell-before}
 use Rattle.rows.specs.Sum.{singly}
 use Rattle.rows.proofs.Size.{Small, acceptable-small, difference-small, small-fits}
 use Rattle.rows.proofs.Sum.{singly-small}
 use Rattle.outcome.specs.Run.{Run, refused, done}
-use Rattle.forward.specs.Run.{inRangeThen, cell, rhs}
+use Rattle.forward.specs.Run.{inRangeThen, rhs}
 use Rattle.elimination.specs.Back.{numerator, back}
 use Rattle.forward.specs.Code.{Working, Pivots, Placed}
 use Rattle.elimination.specs.Code.{unknown, Solved}
-use Rattle.forward.proofs.Index.{cell-before}
 
 module _ (n i : ℕ) (t : List ℤ) where
   -- the code counts its positions from those of a(i,i) and f(i)

@@ -1,6 +1,6 @@
--- The tests of a call, its working copy, and the whole calculation from its parts.
+-- The working copy of a call, and the whole calculation from its parts.
 use mathlib.Core.Path.{_≡_, _∙_}
-use mathlib.Core.List.{List, []}
+use mathlib.Core.List.{List}
 use Prim.Native.Nat.{ℕ, _+_, _*_, _≤_, _<_}
 use native.Mathlib.Omega.{arith}
 use native.Mathlib.Decide.{decLt}
@@ -10,51 +10,17 @@ use lib.Seq.{getD-drop}
 use Rattle.outcome.specs.declared.Outcome.{Outcome}
 use Rattle.outcome.specs.declared.Outcome.the-variants as outcome
 use Rattle.outcome.specs.Run.{Run, refused, done, andThen, ended}
-use Rattle.inputs.specs.declared.Test.{Test}
-use Rattle.inputs.specs.declared.Test.the-variants.{Pass, Fail}
-use Rattle.inputs.specs.Tests.{sized, lengths, proper, tested}
-use Rattle.inputs.specs.System.{System, slices}
-use Rattle.inputs.proofs.Tests.{both-pass, square}
-use Rattle.inputs.proofs.System.{size-stops, lengths-stop, sizes-go, Fitting, sizes-fitting, matrix-stops, right-last, Proper, parts-proper}
+use Rattle.inputs.specs.System.{System}
+use Rattle.inputs.specs.Code.{Ended}
+use Rattle.inputs.proofs.Tests.{square}
+use Rattle.inputs.proofs.System.{Ready}
 use Rattle.inputs.proofs.Place.{sound-append, sound-noughts}
 use Rattle.rows.specs.Sum.{singly}
 use Rattle.forward.specs.Pivot.{lowestRow}
 use Rattle.forward.specs.Forward.{Table, table, forward}
 use Rattle.elimination.specs.Back.{back}
-use Rattle.elimination.specs.Call.{copied, box, noneTaken, solved, tests}
+use Rattle.elimination.specs.Call.{copied, box, noneTaken, solved}
 use Rattle.forward.specs.Code.{Working}
-use Rattle.elimination.specs.Code.{Ended}
-
--- ---- the tests, one after the other, and what they say when they pass
-module _ (s : System) (l : ℕ) where
-  pub tests-size : {o : Outcome} → sized (s .size) ≡ Fail o → Fail o ≡ tests s l
-  unfolding tests
-  tests-size e = size-stops s l _ e
-
-  module _ (e : sized (s .size) ≡ Pass) where
-    pub tests-lengths : {o : Outcome} → lengths (slices s l) ≡ Fail o → Fail o ≡ tests s l
-    unfolding tests
-    tests-lengths f = lengths-stop s l _ e f
-
-    module _ (f : lengths (slices s l) ≡ Pass) where
-      pub tests-matrix : {o : Outcome} → proper (s .matrix) (s .size * s .size) 0 0 ≡ Fail o → Fail o ≡ tests s l
-      unfolding tests
-      tests-matrix g = matrix-stops s [] g ∙ sizes-go s l _ e f
-
-      pub tests-right : proper (s .matrix) (s .size * s .size) 0 0 ≡ Pass → proper (s .right) (s .size) 0 (s .size * s .size) ≡ tests s l
-      unfolding tests
-      tests-right g = right-last s g ∙ sizes-go s l _ e f
-
-  pub record Ready : Type 0 where
-    pub fitting : Fitting s l
-    pub proper : Proper s []
-
-  pub ready : tests s l ≡ Pass → Ready
-  unfolding tests
-  ready e =
-      let b = both-pass _ _ e in
-      let g = sizes-fitting s l (b .0) in
-      record { fitting = g; proper = parts-proper s [] g (b .1) }
 
 -- ---- the working copy
 noughts : (i : ℕ) → getD (replicate 2112 (pos 0)) i (pos 0) ≡ pos 0
@@ -108,13 +74,3 @@ ended-stop f x e = record { is = rw e }
 pub ended-on : {r : Run (List ℤ)} {o : Outcome} {t : List ℤ} (f : List ℤ → Run (List ℤ)) {x y : List ℤ} → r ≡ done t → Ended (f t) o x y → Ended (andThen r f) o x y
 unfolding andThen
 ended-on f e h = rw e h
-
--- ---- a call, after its tests
-module _ (t : Test) (r : Run (List ℤ)) (x : List ℤ) where
-  pub call-runs : {o : Outcome} {y : List ℤ} → t ≡ Pass → Ended r o x y → Ended (tested t r) o x y
-  unfolding tested
-  call-runs e h = rw e h
-
-  pub call-fails : {o : Outcome} → t ≡ Fail o → Ended (tested t r) o x x
-  unfolding tested ended
-  call-fails e = record { is = rw e }

@@ -9,26 +9,24 @@ use lib.ListN.{length, set}
 use Rattle.outcome.specs.declared.Outcome.{Outcome}
 use Rattle.outcome.specs.declared.Outcome.the-variants as outcome
 use Rattle.outcome.specs.Table.{numberAndPlace}
-use Rattle.outcome.specs.Run.{Run, refused, done, andThen, ended}
+use Rattle.outcome.specs.Run.{Run, refused, done, andThen, ended, written}
 use Rattle.outcome.proofs.Run.{Refuses}
 use Rattle.inputs.specs.declared.Test.{Test}
 use Rattle.inputs.specs.declared.Test.the-variants.{Pass, Fail}
-use Rattle.inputs.specs.Place.{at}
+use Rattle.inputs.specs.Place.{at, cell}
 use Rattle.inputs.specs.Tests.{tested}
-use Rattle.inputs.specs.System.{System}
-use Rattle.inputs.proofs.Early.{Early, early-number}
+use Rattle.inputs.specs.System.{System, tests}
+use Rattle.inputs.proofs.Early.{Early, early-number, early-tests}
 use Rattle.rows.specs.Sum.{singly}
-use Rattle.forward.specs.Run.{cell}
 use Rattle.forward.specs.Pivot.{lowestRow, swapped}
 use Rattle.forward.specs.Forward.{Table, table, taking, rows, pivots, forward}
 use Rattle.forward.specs.Formed.{formedRows}
 use Rattle.forward.proofs.Run.{done-same, refused-same, not-refused, stepped}
 use Rattle.forward.proofs.Pivot.{refused-five, five}
 use Rattle.elimination.specs.Back.{back}
-use Rattle.elimination.specs.Call.{copied, box, noneTaken, solved, tests, runA, runB, written}
+use Rattle.elimination.specs.Call.{copied, box, noneTaken, solved, runA, runB}
 use Rattle.elimination.specs.Claim.{NoRow, NoRowOfB, Five, FiveExactly}
 use Rattle.elimination.proofs.Refused.{refuses-rows, refuses-back, refuses-formedRows}
-use Rattle.elimination.proofs.Accepted.{early-tests}
 
 -- ---- no part but the search says 5
 abbrev Other : Outcome → Type 0

@@ -10,22 +10,21 @@ use lib.ListN.{length, set}
 use Rattle.outcome.specs.declared.Outcome.{Outcome}
 use Rattle.outcome.specs.declared.Outcome.the-variants as outcome
 use Rattle.outcome.specs.Table.{numberAndPlace}
-use Rattle.outcome.specs.Run.{Run, refused, done, andThen, ended}
+use Rattle.outcome.specs.Run.{Run, refused, done, andThen, ended, written}
 use Rattle.outcome.proofs.Run.{Refuses}
 use Rattle.interval.specs.Interval.{containsZero}
 use Rattle.inputs.specs.declared.Test.{Test}
 use Rattle.inputs.specs.declared.Test.the-variants.{Pass, Fail}
-use Rattle.inputs.specs.Place.{at}
+use Rattle.inputs.specs.Place.{at, cell}
 use Rattle.inputs.specs.Tests.{tested}
-use Rattle.inputs.specs.System.{System}
+use Rattle.inputs.specs.System.{System, tests}
 use Rattle.rows.specs.Sum.{RowSum, singly}
-use Rattle.forward.specs.Run.{cell}
 use Rattle.forward.specs.Pivot.{lowestRow, inPlace, swapped}
 use Rattle.forward.specs.Forward.{Table, table, taking, rows, pivots, forward}
 use Rattle.forward.specs.Formed.{formedRows}
 use Rattle.forward.proofs.Pivot.{stays}
 use Rattle.elimination.specs.Back.{back}
-use Rattle.elimination.specs.Call.{copied, box, noneTaken, solved, tests, runA, runB, written}
+use Rattle.elimination.specs.Call.{copied, box, noneTaken, solved, runA, runB}
 use Rattle.elimination.specs.Claim.{SameUnlessFive}
 
 abbrev Other : {A : Type 0} → Run A → Type 0

@@ -5,10 +5,10 @@ use Prim.Native.Nat.{ℕ, zero, suc, _+_, _-_}
 use lib.IntN.{ℤ}
 use Rattle.interval.specs.declared.Interval.{Interval}
 use Rattle.interval.specs.Interval.{exactDifference, quotient}
-use Rattle.inputs.specs.Place.{at, put}
+use Rattle.inputs.specs.Place.{at, put, cell}
 use Rattle.rows.specs.Sum.{RowSum}
 use Rattle.outcome.specs.Run.{Run, done}
-use Rattle.forward.specs.Run.{inRangeThen, cell, rhs}
+use Rattle.forward.specs.Run.{inRangeThen, rhs}
 
 -- x(j) stands in the place of f(j), for j > i
 unfoldable pub numerator : RowSum → (n i : ℕ) → List ℤ → Interval

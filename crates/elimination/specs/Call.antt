@@ -1,13 +1,11 @@
 -- Document 01, Elimination: 'There are two calls: one takes A and f; the other takes B and b.'
-use mathlib.Core.List.{List, [], _++_}
+use mathlib.Core.List.{List, _++_}
 use Prim.Native.Nat.{ℕ, _+_, _*_}
 use lib.IntN.{ℤ, pos}
 use lib.ListN.{length, take, drop, replicate}
-use Rattle.outcome.specs.declared.Outcome.the-variants as outcome
-use Rattle.outcome.specs.Run.{Run, done, andThen, Returned, returned, ended}
-use Rattle.inputs.specs.declared.Test.{Test}
-use Rattle.inputs.specs.Tests.{both, sizes, allProper, tested}
-use Rattle.inputs.specs.System.{System, slices, parts}
+use Rattle.outcome.specs.Run.{Run, done, andThen, Returned, written, ended}
+use Rattle.inputs.specs.Tests.{tested}
+use Rattle.inputs.specs.System.{System, tests}
 use Rattle.rows.specs.Sum.{RowSum, singly}
 use Rattle.forward.specs.Pivot.{Pivoting, lowestRow}
 use Rattle.forward.specs.Forward.{table, forward}
@@ -29,22 +27,14 @@ noneTaken = replicate 32 (pos 0)
 unfoldable pub solved : Pivoting → RowSum → (n : ℕ) → List ℤ → Run (List ℤ)
 solved p sum n t = andThen (forward p n (table t noneTaken)) (λ s. andThen (back sum n n (s .numbers)) (λ t₁. done (box n t₁)))
 
--- 'Neither reads what its lent box holds': only its length is tested
-unfoldable pub tests : System → (boxLength : ℕ) → Test
-tests s l = both (sizes (s .size) (slices s l)) (allProper 0 (parts s []))
-
--- the runs over A and f, and over B and b
+-- the runs over A and f, and over B and b. 'Neither reads what its lent box holds': they are given its length
 unfoldable pub runA : Pivoting → System → (boxLength : ℕ) → Run (List ℤ)
 runA p s l = tested (tests s l) (solved p singly (s .size) (copied s))
 
 unfoldable pub runB : Pivoting → System → (boxLength : ℕ) → Run (List ℤ)
 runB p s l = tested (tests s l) (andThen (formedRows (s .size) (s .size) 0 (copied s)) (λ t. solved p singly (s .size) t))
 
--- 'writes the box only when all is done'; document 01 has no count for an elimination, it is 0
-abbrev pub written : List ℤ → Returned (List ℤ)
-written x = returned outcome.Done 0 x
-
--- what they return, and what they leave in the lent box
+-- what they return, and what they leave in the lent box: 'writes the box only when all is done'; document 01 has no count for an elimination, it is 0
 abbrev pub endedA : Pivoting → System → (box : List ℤ) → Returned (List ℤ)
 endedA p s X = ended written X (runA p s (length X))
 

@@ -9,13 +9,12 @@ use lib.ListN.{length}
 use Rattle.outcome.specs.Run.{done, Returned}
 use Rattle.interval.specs.Interval.{containsZero}
 use Rattle.inputs.specs.declared.Test.the-variants.{Pass}
-use Rattle.inputs.specs.Place.{at}
-use Rattle.inputs.specs.System.{System}
-use Rattle.forward.specs.Run.{cell}
+use Rattle.inputs.specs.Place.{at, cell}
+use Rattle.inputs.specs.System.{System, tests}
 use Rattle.forward.specs.Pivot.{lowestRow, inPlace}
 use Rattle.forward.specs.Forward.{Table, table, pivots}
 use Rattle.forward.specs.Formed.{formedRows}
-use Rattle.elimination.specs.Call.{copied, noneTaken, tests, endedA, endedB, overA, overB}
+use Rattle.elimination.specs.Call.{copied, noneTaken, endedA, endedB, overA, overB}
 
 -- ---- 'Refusal 5 is now given exactly if no such row exists'
 -- the steps before step k go to their end, and in what they leave every row from k on contains 0 in column k

@@ -4,38 +4,12 @@ pub mod internal;
 use crate::internal::solve::solve;
 use crate::internal::solve::solve_balance;
 use inputs::Test;
-use inputs::internal::intervals;
-use inputs::internal::lengths;
-use inputs::internal::size;
+use inputs::internal::tested;
 use outcome::Outcome;
 ghost use mathlib.Core.Path.{_≡_};
 ghost use Rattle.outcome.specs.Run.{returned};
 ghost use Rattle.inputs.specs.System.{system};
-ghost use Rattle.elimination.specs.Call.{tests, overA, overB};
-
-// The tests before the calculation.
-fn tested(n: usize, matrix: &[i64], right: &[i64], bounds: usize) -> Test
-    ensures { λ r. ⌜ r ≡ tests (system n (now (matrix .entry)) (now (right .entry))) bounds ⌝ }
-{
-    let s = size(n);
-    if let Test::Fail(o) = s {
-        return Test::Fail(o);
-    }
-    let slices = [
-        [1, matrix.len(), 2 * (n * n)],
-        [2, right.len(), 2 * n],
-        [3, bounds, 2 * n],
-    ];
-    let l = lengths(&slices);
-    if let Test::Fail(o) = l {
-        return Test::Fail(o);
-    }
-    let m = intervals(matrix, n * n, 0);
-    if let Test::Fail(o) = m {
-        return Test::Fail(o);
-    }
-    intervals(right, n, n * n)
-}
+ghost use Rattle.elimination.specs.Call.{overA, overB};
 
 // Eliminates from A and f: bounds on the solutions of A·x = f, in the lent box.
 pub fn eliminate(n: usize, a: &[i64], f: &[i64], bounds: &mut [i64]) -> Outcome

@@ -14,11 +14,11 @@ use Rattle.outcome.specs.declared.Outcome.the-variants as outcome
 use Rattle.interval.specs.declared.Interval.{Interval}
 use Rattle.interval.specs.Interval.{scale, lowest, highest, point, zero, one, within, inRange, acceptable, exactDifference}
 use Rattle.interval.specs.Code.{Representable}
-use Rattle.inputs.specs.Place.{at}
+use Rattle.inputs.specs.Place.{at, cell}
 use Rattle.inputs.specs.Code.{Sound}
 use Rattle.rows.proofs.Size.{Small, acceptable-small, difference-small, small-fits}
 use Rattle.outcome.specs.Run.{refused, done, andThen}
-use Rattle.forward.specs.Run.{inRangeThen, cell}
+use Rattle.forward.specs.Run.{inRangeThen}
 use Rattle.forward.specs.Formed.{identity, formedRow, formedRows}
 use Rattle.forward.specs.Code.{Working, Placed}
 use Rattle.forward.proofs.Index.{cell-room}

@@ -11,12 +11,12 @@ use Rattle.outcome.specs.declared.Outcome.{Outcome}
 use Rattle.outcome.specs.declared.Outcome.the-variants as outcome
 use Rattle.interval.specs.declared.Interval.{Interval}
 use Rattle.interval.specs.Interval.{acceptable, containsZero, inRange, quotient}
-use Rattle.inputs.specs.Place.{at, put}
+use Rattle.inputs.specs.Place.{at, put, cell}
 use Rattle.inputs.specs.Code.{Sound}
 use Rattle.forward.specs.declared.internal.Usable.{Usable}
 use Rattle.forward.specs.declared.internal.Usable.the-variants.{Yes, No}
 use Rattle.outcome.specs.Run.{Run, refused, done, andThen}
-use Rattle.forward.specs.Run.{inRangeThen, cell, rhs}
+use Rattle.forward.specs.Run.{inRangeThen, rhs}
 use Rattle.forward.specs.declared.internal.Chosen.{Chosen}
 use Rattle.forward.specs.declared.internal.Chosen.the-variants.{Row, None}
 use Rattle.forward.specs.Pivot.{lowestRow, swapped}

@@ -10,15 +10,14 @@ use lib.IntN.{ℤ, pos}
 use lib.ListN.{length, set}
 use Rattle.interval.specs.declared.Interval.{Interval}
 use Rattle.interval.specs.Interval.{containsZero}
-use Rattle.inputs.specs.Place.{at, put}
-use Rattle.inputs.proofs.Place.{length-put, at-put-other}
+use Rattle.inputs.specs.Place.{at, put, cell}
+use Rattle.inputs.proofs.Place.{length-put, at-put-other, cell-before}
 use Rattle.inputs.proofs.Tests.{rows-apart}
 use Rattle.outcome.specs.Run.{done}
-use Rattle.forward.specs.Run.{cell, rhs}
+use Rattle.forward.specs.Run.{rhs}
 use Rattle.forward.specs.Pivot.{lowestRow, swapped}
 use Rattle.forward.specs.Forward.{Table, table, columns, rightSide, rows, pivots, forward}
 use Rattle.forward.specs.Code.{Pivots}
-use Rattle.forward.proofs.Index.{cell-before}
 use Rattle.forward.proofs.Run.{done-same, joined, ranged, Stepped, stepped}
 use Rattle.forward.proofs.Pivot.{Serves, serves}
 use Rattle.forward.proofs.Swap.{Swapped, rows-swapped}

@@ -10,9 +10,9 @@ use Rattle.outcome.specs.declared.Outcome.{Outcome}
 use Rattle.outcome.specs.declared.Outcome.the-variants as outcome
 use Rattle.interval.specs.declared.Interval.{Interval}
 use Rattle.interval.specs.Interval.{inRange}
-use Rattle.inputs.specs.Place.{at}
+use Rattle.inputs.specs.Place.{at, cell}
 use Rattle.outcome.specs.Run.{Run, refused, done, andThen}
-use Rattle.forward.specs.Run.{inRangeThen, cell}
+use Rattle.forward.specs.Run.{inRangeThen}
 use Rattle.forward.specs.Pivot.{Pivoting, swapped}
 use Rattle.forward.specs.Forward.{Table, table, taking, rows, pivots}
 

@@ -8,14 +8,14 @@ use native.Mathlib.Decide.{ℕ-discrete, decLt}
 use lib.IntN.{ℤ, pos}
 use lib.ListN.{length, getD, set}
 use Rattle.interval.specs.declared.Interval.{Interval}
-use Rattle.inputs.specs.Place.{at, put}
+use Rattle.inputs.specs.Place.{at, put, cell}
 use Rattle.inputs.specs.Code.{Sound}
-use Rattle.inputs.proofs.Place.{length-put, at-put-same, at-put-other, sound-put}
+use Rattle.inputs.proofs.Place.{length-put, at-put-same, at-put-other, sound-put, cell-before}
 use Rattle.inputs.proofs.Tests.{rows-apart}
-use Rattle.forward.specs.Run.{cell, rhs}
+use Rattle.forward.specs.Run.{rhs}
 use Rattle.forward.specs.Pivot.{exchanged, swappedColumns, swapped}
 use Rattle.forward.specs.Code.{Working}
-use Rattle.forward.proofs.Index.{cell-before, cell-room}
+use Rattle.forward.proofs.Index.{cell-room}
 use Rattle.forward.proofs.Step.{turn}
 
 -- ---- a row with itself

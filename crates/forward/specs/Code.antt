@@ -7,7 +7,7 @@ use lib.IntN.{ℤ}
 use lib.ListN.{length}
 use Rattle.interval.specs.declared.Interval.{Interval}
 use Rattle.interval.specs.Interval.{containsZero, inRange}
-use Rattle.inputs.specs.Place.{at, put}
+use Rattle.inputs.specs.Place.{at, put, cell}
 use Rattle.inputs.specs.Code.{Sound}
 use Rattle.outcome.specs.declared.Outcome.the-variants as outcome
 use Rattle.outcome.specs.Run.{Run, refused, done}
@@ -17,7 +17,6 @@ use Rattle.forward.specs.declared.internal.Ending.{Ending}
 use Rattle.forward.specs.declared.internal.Ending.the-variants.{Finished, Stopped}
 use Rattle.forward.specs.declared.internal.Usable.{Usable}
 use Rattle.forward.specs.declared.internal.Usable.the-variants.{Yes, No}
-use Rattle.forward.specs.Run.{cell}
 use Rattle.forward.specs.Pivot.{lowestRow}
 use Rattle.forward.specs.Forward.{Table, taking}
 

@@ -6,9 +6,9 @@ use lib.Dec.{eqb}
 use lib.IntN.{ℤ}
 use Rattle.interval.specs.declared.Interval.{Interval}
 use Rattle.interval.specs.Interval as interval
-use Rattle.inputs.specs.Place.{at, put}
+use Rattle.inputs.specs.Place.{at, put, cell}
 use Rattle.outcome.specs.Run.{Run, done, andThen}
-use Rattle.forward.specs.Run.{inRangeThen, cell}
+use Rattle.forward.specs.Run.{inRangeThen}
 
 -- an entry of I
 unfoldable pub identity : (i j : ℕ) → Interval

@@ -5,9 +5,9 @@ use lib.IntN.{ℤ, pos}
 use lib.ListN.{set}
 use Rattle.interval.specs.declared.Interval.{Interval}
 use Rattle.interval.specs.Interval.{exactDifference, product, quotient}
-use Rattle.inputs.specs.Place.{at, put}
+use Rattle.inputs.specs.Place.{at, put, cell}
 use Rattle.outcome.specs.Run.{Run, done, andThen}
-use Rattle.forward.specs.Run.{inRangeThen, cell, rhs}
+use Rattle.forward.specs.Run.{inRangeThen, rhs}
 use Rattle.forward.specs.Pivot.{Pivoting, swapped}
 
 -- the numbers, and of each step the row that it took, as a place from 0

@@ -7,8 +7,8 @@ use lib.IntN.{ℤ}
 use Rattle.outcome.specs.declared.Outcome.the-variants as outcome
 use Rattle.outcome.specs.Run.{Run, refused, done}
 use Rattle.interval.specs.Interval.{containsZero}
-use Rattle.inputs.specs.Place.{at, put}
-use Rattle.forward.specs.Run.{cell, rhs}
+use Rattle.inputs.specs.Place.{at, put, cell}
+use Rattle.forward.specs.Run.{rhs}
 
 -- which row step k takes
 abbrev pub Pivoting : Type 0

@@ -12,10 +12,6 @@ use Rattle.interval.specs.Interval.{inRange}
 unfoldable pub inRangeThen : ℕ → Interval → (Interval → Run (List ℤ)) → Run (List ℤ)
 inRangeThen row v f = cond (inRange v) (f v) (refused (outcome.OutOfRange row))
 
--- the numbers are those of the matrix, row by row, and then those of the right side. Rows and columns count from 0 here, and the
--- positions of their intervals too; the places of outcomes count from 1
-abbrev pub cell : (n i j : ℕ) → ℕ
-cell n i j = i * n + j
-
+-- the numbers are those of the matrix and then those of the right side: where the right side of row i stands
 abbrev pub rhs : (n i : ℕ) → ℕ
 rhs n i = n * n + i

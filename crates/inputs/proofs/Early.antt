@@ -11,6 +11,7 @@ use Rattle.outcome.specs.Table.{numberAndPlace}
 use Rattle.interval.proofs.Range.{and-both}
 use Rattle.inputs.specs.declared.Test.{Test}
 use Rattle.inputs.specs.declared.Test.the-variants.{Pass, Fail}
+use Rattle.inputs.specs.System.{System, tests}
 use Rattle.inputs.specs.Tests.{both, need, sized, Slice, lengths, sizes, proper, Part, allProper}
 
 abbrev First : Outcome → Type 0
@@ -57,6 +58,10 @@ pub early-all : (from : ℕ) (ps : List Part) → Early (allProper from ps)
 unfolding allProper
 early-all from [] = search parts
 early-all from (p ∷ ps) = early-both _ _ (search early-proper) (early-all (from + p .count) ps)
+
+pub early-tests : (s : System) (l : ℕ) → Early (tests s l)
+unfolding tests
+early-tests s l = search (early-both, early-sizes, early-all)
 
 pub early-number : {t : Test} {o : Outcome} → Early t → t ≡ Fail o → (1 ≤ numberAndPlace o .number) × (numberAndPlace o .number ≤ 4)
 early-number {o = o} h e =

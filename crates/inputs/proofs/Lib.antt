@@ -3,3 +3,4 @@ pub mod Place
 pub mod Copy
 pub mod Early
 pub mod System
+pub mod Accepted

@@ -1,5 +1,5 @@
 -- The tests of what is lent to a call: matrix, right side and box, and then whatever follows.
-use mathlib.Core.Path.{_≡_}
+use mathlib.Core.Path.{_≡_, _∙_}
 use mathlib.Core.List.{List, []}
 use Prim.Native.Nat.{ℕ, _+_, _*_, _≤_}
 use native.Mathlib.Nat.{zero-add}
@@ -8,11 +8,12 @@ use lib.IntN.{ℤ}
 use lib.ListN.{length}
 use Rattle.outcome.specs.declared.Outcome.{Outcome}
 use Rattle.outcome.specs.declared.Outcome.the-variants as outcome
+use Rattle.outcome.specs.Run.{Run, ended}
 use Rattle.inputs.specs.declared.Test.{Test}
 use Rattle.inputs.specs.declared.Test.the-variants.{Pass, Fail}
-use Rattle.inputs.specs.Tests.{both, sized, lengths, sizes, proper, Part, allProper}
-use Rattle.inputs.specs.System.{System, slices, parts}
-use Rattle.inputs.specs.Code.{Sound}
+use Rattle.inputs.specs.Tests.{both, sized, lengths, sizes, proper, Part, allProper, tested}
+use Rattle.inputs.specs.System.{System, slices, parts, tests}
+use Rattle.inputs.specs.Code.{Sound, Ended}
 use Rattle.inputs.proofs.Tests.{both-pass, both-last, need-pass, sized-pass}
 use Rattle.inputs.proofs.Place.{proper-sound}
 
@@ -93,3 +94,44 @@ module _ (s : System) (ps : List Part) where
         right = proper-sound (s .right) (s .size) _ (g .right) (r .0);
         rest = r .1;
       }
+
+-- ---- the tests, one after the other, and what they say when they pass
+module _ (s : System) (l : ℕ) where
+  pub tests-size : {o : Outcome} → sized (s .size) ≡ Fail o → Fail o ≡ tests s l
+  unfolding tests
+  tests-size e = size-stops s l _ e
+
+  module _ (e : sized (s .size) ≡ Pass) where
+    pub tests-lengths : {o : Outcome} → lengths (slices s l) ≡ Fail o → Fail o ≡ tests s l
+    unfolding tests
+    tests-lengths f = lengths-stop s l _ e f
+
+    module _ (f : lengths (slices s l) ≡ Pass) where
+      pub tests-matrix : {o : Outcome} → proper (s .matrix) (s .size * s .size) 0 0 ≡ Fail o → Fail o ≡ tests s l
+      unfolding tests
+      tests-matrix g = matrix-stops s [] g ∙ sizes-go s l _ e f
+
+      pub tests-right : proper (s .matrix) (s .size * s .size) 0 0 ≡ Pass → proper (s .right) (s .size) 0 (s .size * s .size) ≡ tests s l
+      unfolding tests
+      tests-right g = right-last s g ∙ sizes-go s l _ e f
+
+  pub record Ready : Type 0 where
+    pub fitting : Fitting s l
+    pub proper : Proper s []
+
+  pub ready : tests s l ≡ Pass → Ready
+  unfolding tests
+  ready e =
+      let b = both-pass _ _ e in
+      let g = sizes-fitting s l (b .0) in
+      record { fitting = g; proper = parts-proper s [] g (b .1) }
+
+-- ---- a call, after its tests
+module _ (t : Test) (r : Run (List ℤ)) (x : List ℤ) where
+  pub call-runs : {o : Outcome} {y : List ℤ} → t ≡ Pass → Ended r o x y → Ended (tested t r) o x y
+  unfolding tested
+  call-runs e h = rw e h
+
+  pub call-fails : {o : Outcome} → t ≡ Fail o → Ended (tested t r) o x x
+  unfolding tested ended
+  call-fails e = record { is = rw e }

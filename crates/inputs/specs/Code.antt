@@ -5,6 +5,8 @@ use mathlib.Core.List.{List, [], _∷_}
 use Prim.Native.Nat.{ℕ}
 use lib.IntN.{ℤ}
 use lib.ListN.{getD}
+use Rattle.outcome.specs.declared.Outcome.{Outcome}
+use Rattle.outcome.specs.Run.{Run, returned, written, ended}
 use Rattle.interval.specs.Interval.{acceptable}
 use Rattle.inputs.specs.Place.{at}
 use Rattle.inputs.specs.Tests.{Slice, slice}
@@ -17,3 +19,7 @@ pub record Sound (t : List ℤ) : Type 0 where
 unfoldable pub listed : List (List ℕ) → List Slice
 listed [] = []
 listed (s ∷ ss) = slice (getD s 0 0) (getD s 1 0) (getD s 2 0) ∷ listed ss
+
+-- a whole calculation without a count: its outcome and the lent box
+pub record Ended (run : Run (List ℤ)) (o : Outcome) (before after : List ℤ) : Type 0 where
+  pub is : returned o 0 after ≡ ended written before run

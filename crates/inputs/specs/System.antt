@@ -4,7 +4,8 @@ use mathlib.Core.List.{List, [], _∷_}
 use Prim.Native.Nat.{ℕ, _*_}
 use lib.IntN.{ℤ}
 use lib.ListN.{length}
-use Rattle.inputs.specs.Tests.{Slice, slice, Part}
+use Rattle.inputs.specs.declared.Test.{Test}
+use Rattle.inputs.specs.Tests.{both, Slice, slice, sizes, Part, allProper}
 
 -- what is lent to a call besides its box
 pub record System : Type 0 where
@@ -25,3 +26,7 @@ slices s l =
 -- 'through matrix, right side', and what comes after them
 abbrev pub parts : System → List Part → List Part
 parts s ps = record { numbers = s .matrix; count = s .size * s .size } ∷ record { numbers = s .right; count = s .size } ∷ ps
+
+-- tests 1, 2 and 3 of a call that does not read what its lent box holds: of the box only the length is tested
+unfoldable pub tests : System → (boxLength : ℕ) → Test
+tests s l = both (sizes (s .size) (slices s l)) (allProper 0 (parts s []))

@@ -9,6 +9,7 @@ ghost use Prim.Native.Nat.{_+_, _*_, _≤_, _<_};
 ghost use lib.ListN.{length};
 ghost use Rattle.inputs.specs.Place.{at, put};
 ghost use Rattle.inputs.specs.Tests.{sized, lengths, proper};
+ghost use Rattle.inputs.specs.System.{system, tests};
 ghost use Rattle.inputs.specs.Code.{listed};
 
 // The interval at position p.
@@ -72,4 +73,28 @@ pub fn intervals(s: &[i64], count: usize, from: usize) -> Test
         }
     }
     Test::Pass
+}
+
+// Tests 1, 2 and 3 of a matrix, a right side and a box of which only the length counts.
+pub fn tested(n: usize, matrix: &[i64], right: &[i64], bounds: usize) -> Test
+    ensures { λ r. ⌜ r ≡ tests (system n (now (matrix .entry)) (now (right .entry))) bounds ⌝ }
+{
+    let s = size(n);
+    if let Test::Fail(o) = s {
+        return Test::Fail(o);
+    }
+    let slices = [
+        [1, matrix.len(), 2 * (n * n)],
+        [2, right.len(), 2 * n],
+        [3, bounds, 2 * n],
+    ];
+    let l = lengths(&slices);
+    if let Test::Fail(o) = l {
+        return Test::Fail(o);
+    }
+    let m = intervals(matrix, n * n, 0);
+    if let Test::Fail(o) = m {
+        return Test::Fail(o);
+    }
+    intervals(right, n, n * n)
 }

@@ -6,3 +6,5 @@ pub mod Order
 pub mod Rounding
 pub mod Extremes
 pub mod Machine
+pub mod Total
+pub mod Summing

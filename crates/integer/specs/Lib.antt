@@ -1,2 +1,3 @@
 pub mod Rounding
 pub mod Extremes
+pub mod Total

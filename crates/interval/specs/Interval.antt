@@ -41,6 +41,10 @@ inRange v = within (v .lo) && within (v .hi)
 unfoldable pub acceptable : Interval → Bool
 acceptable v = leZ (v .lo) (v .hi) && inRange v
 
+-- 'A width is upper end less lower end'
+abbrev pub width : Interval → ℤ
+width v = v .hi -ℤ v .lo
+
 -- 'contains 0, its ends included'
 unfoldable pub containsZero : Interval → Bool
 containsZero v = leZ (v .lo) (pos 0) && leZ (pos 0) (v .hi)

@@ -8,7 +8,8 @@ ghost use mathlib.Core.Path.{_≡_};
 ghost use Rattle.interval.specs.Interval.{within, inRange, acceptable, containsZero, exactSum, exactDifference, intersection, isEmpty};
 ghost use Rattle.interval.specs.Code.{Representable};
 
-fn within(z: i64) -> bool
+// A number in the range.
+pub fn within(z: i64) -> bool
     ensures { λ r. ⌜ r ≡ within z ⌝ }
 {
     if Interval::LOWEST <= z {

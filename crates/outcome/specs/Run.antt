@@ -1,6 +1,7 @@
 -- How calls end: refused with a row of the table, or done with a result; and what a caller gets back.
 use Prim.Native.Nat.{ℕ}
 use Rattle.outcome.specs.declared.Outcome.{Outcome}
+use Rattle.outcome.specs.declared.Outcome.the-variants as outcome
 use Rattle.outcome.specs.Table.{numberAndPlace}
 
 -- a call, or a part of its calculation
@@ -21,6 +22,10 @@ pub record Returned (A : Type 0) : Type 0 where
 
 abbrev pub returned : {A : Type 0} → Outcome → (count : ℕ) → A → Returned A
 returned o c a = record { number = numberAndPlace o .number; place = numberAndPlace o .place; count = c; left = a }
+
+-- a call without a count that writes its result when all is done
+abbrev pub written : {A : Type 0} → A → Returned A
+written a = returned outcome.Done 0 a
 
 -- 'No refusal alters a lent slice', 'every other refusal has count 0'; a call that is done returns what its result says
 unfoldable pub ended : {A B : Type 0} → (A → Returned B) → (lent : B) → Run A → Returned B

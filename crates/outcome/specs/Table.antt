@@ -1,8 +1,8 @@
--- Document 01, Outcomes: the table, row by row.
+-- Document 01, Outcomes: the table, row by row; then the row that document 02, A2 adds.
 use Prim.Native.Nat.{ℕ}
 use Rattle.outcome.specs.declared.Outcome.{Outcome}
 use Rattle.outcome.specs.declared.Outcome.the-variants.{Done, Spent, Size, Length, Allowed, Ends}
-use Rattle.outcome.specs.declared.Outcome.the-variants.{ContainsZero, OutOfRange, Empty, Text}
+use Rattle.outcome.specs.declared.Outcome.the-variants.{ContainsZero, OutOfRange, Empty, Text, Sums}
 
 -- what is returned, and the place returned
 pub record Row : Type 0 where
@@ -23,3 +23,4 @@ numberAndPlace (ContainsZero pivot) = row 5 pivot
 numberAndPlace (OutOfRange i) = row 6 i
 numberAndPlace (Empty i) = row 7 i
 numberAndPlace (Text line) = row 8 line
+numberAndPlace Sums = row 10 0

@@ -1,7 +1,7 @@
 ghost use mathlib.Core.Path.{_≡_};
 ghost use Rattle.outcome.specs.Table.{numberAndPlace};
 
-// How a call ends: document 01, Outcomes. Each case carries the place that its row of the table names; numberAndPlace, in specs/, gives the numbers.
+// How a call ends: document 01, Outcomes, with the number that document 02, A2 adds. Each case carries the place that its row of the table names; numberAndPlace, in specs/, gives the numbers.
 // The count of sweeps stands beside an outcome, not in it.
 pub enum Outcome {
     // done, or settled
@@ -23,6 +23,8 @@ pub enum Outcome {
     Empty(usize),
     // the text is not as described, in this line
     Text(usize),
+    // neither every row sum nor every column sum of the magnitudes is below one
+    Sums,
 }
 
 impl Outcome {
@@ -41,6 +43,7 @@ impl Outcome {
             Outcome::OutOfRange(_) => 6,
             Outcome::Empty(_) => 7,
             Outcome::Text(_) => 8,
+            Outcome::Sums => 10,
         }
     }
 
@@ -59,6 +62,7 @@ impl Outcome {
             Outcome::OutOfRange(row) => row,
             Outcome::Empty(component) => component,
             Outcome::Text(line) => line,
+            Outcome::Sums => 0,
         }
     }
 }

@@ -4,17 +4,16 @@ use mathlib.Core.List.{List, [], _∷_}
 use Prim.Native.Nat.{ℕ, _*_}
 use lib.IntN.{ℤ, pos, negℤ}
 use lib.ListN.{replicate}
-use Rattle.outcome.specs.Run.{Run, done, andThen, Returned, ended}
+use Rattle.outcome.specs.Run.{Run, done, andThen, Returned, ended, written}
 use Rattle.interval.specs.declared.Interval.{Interval}
 use Rattle.interval.specs.Interval.{ends, point, zero}
 use Rattle.interval.specs.Answer.{Answer, sumAnswer, productAnswer, quotientAnswer}
 use Rattle.inputs.specs.System.{System}
-use Rattle.inputs.specs.Place.{at}
-use Rattle.forward.specs.Run.{cell}
+use Rattle.inputs.specs.Place.{at, cell}
 use Rattle.forward.specs.Pivot.{lowestRow, inPlace}
 use Rattle.forward.specs.Forward.{forward}
 use Rattle.forward.specs.Forward.{table as start}
-use Rattle.elimination.specs.Call.{copied, noneTaken, written, endedA, overA, overB}
+use Rattle.elimination.specs.Call.{copied, noneTaken, endedA, overA, overB}
 use Rattle.sweep.specs.Calls.{sweepCall, call}
 
 -- the numbers of a list of intervals

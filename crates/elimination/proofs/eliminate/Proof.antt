@@ -1,7 +1,7 @@
 use borrow.Author.Needs.{needs}
 use mathlib.Core.Path.{sym, _∙_}
 use Rattle.elimination.specs.Call.{runA}
-use Rattle.elimination.proofs.Call.{call-runs, call-fails}
+use Rattle.inputs.proofs.System.{call-runs, call-fails}
 use Rattle.elimination.proofs.eliminate.Statement.{statement}
 use Rattle.elimination.proofs.eliminate.Tie as tie
 

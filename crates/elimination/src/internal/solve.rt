@@ -9,14 +9,14 @@ ghost use mathlib.Core.Path.{_≡_};
 ghost use Prim.Native.Nat.{_*_};
 ghost use lib.ListN.{length};
 ghost use Rattle.inputs.specs.declared.Test.the-variants.{Pass};
-ghost use Rattle.inputs.specs.System.{system};
+ghost use Rattle.inputs.specs.System.{system, tests};
+ghost use Rattle.inputs.specs.Code.{Ended};
 ghost use Rattle.rows.specs.Sum.{singly};
 ghost use Rattle.outcome.specs.Run.{andThen};
 ghost use Rattle.forward.specs.Pivot.{lowestRow};
 ghost use Rattle.forward.specs.Formed.{formedRows};
-ghost use Rattle.elimination.specs.Call.{copied, solved, tests};
+ghost use Rattle.elimination.specs.Call.{copied, solved};
 ghost use Rattle.forward.specs.Code.{Working};
-ghost use Rattle.elimination.specs.Code.{Ended};
 
 // Eliminates in the working copy and writes the box at the end.
 fn finish(n: usize, t: &mut [i64], bounds: &mut [i64]) -> Outcome

@@ -6,8 +6,7 @@ use interval::internal::difference;
 use outcome::Outcome;
 ghost use Prim.Native.Nat.{_<_};
 ghost use Rattle.interval.specs.Interval.{exactDifference};
-ghost use Rattle.inputs.specs.Place.{at};
-ghost use Rattle.forward.specs.Run.{cell};
+ghost use Rattle.inputs.specs.Place.{at, cell};
 ghost use Rattle.forward.specs.Formed.{identity, formedRow, formedRows};
 ghost use Rattle.forward.specs.Code.{Working, Placed, Ran};
 

@@ -31,7 +31,7 @@ fn scaled_down(p: i64) -> i64
 }
 
 // p / SCALE rounded up.
-fn scaled_up(p: i64) -> i64
+pub fn scaled_up(p: i64) -> i64
     requires { ⌜ negsuc 3_999_999_999_999_999_999 ≤ℤ p ⌝ }
     requires { ⌜ p ≤ℤ pos 4_000_000_000_000_000_000 ⌝ }
     ensures { λ r. ⌜ r ≡ ceilDiv p scale ⌝ }

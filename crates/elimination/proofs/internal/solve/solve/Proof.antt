@@ -9,10 +9,11 @@ use Rattle.rows.specs.Sum.{singly}
 use Rattle.forward.specs.Pivot.{lowestRow}
 use Rattle.elimination.specs.Call.{copied, solved}
 use Rattle.forward.specs.Code.{Working}
-use Rattle.elimination.specs.Code.{Ended}
-use Rattle.elimination.proofs.Call.{Ready, ready, copied-fits, copied-working}
+use Rattle.elimination.proofs.Call.{copied-fits, copied-working}
 use Rattle.elimination.proofs.internal.solve.solve.Statement.{statement}
 use Rattle.elimination.proofs.internal.solve.solve.Tie as tie
+use Rattle.inputs.proofs.System.{Ready, ready}
+use Rattle.inputs.specs.Code.{Ended}
 
 -- the tests have passed
 is-ready : (s : tie.Start) → Ready (system (s .args .n) (now (s .args .a)) (now (s .args .f))) (length (now (s .args .bounds)))

@@ -9,9 +9,10 @@ use Rattle.inputs.specs.System.{system}
 use Rattle.elimination.specs.Call.{copied}
 use Rattle.forward.specs.Code.{Working, Ran}
 use Rattle.forward.proofs.Step.{working-after, ran-done, ran-stop}
-use Rattle.elimination.proofs.Call.{Ready, ready, copied-fits, copied-working, ended-stop, ended-on}
+use Rattle.elimination.proofs.Call.{copied-fits, copied-working, ended-stop, ended-on}
 use Rattle.elimination.proofs.internal.solve.solve_balance.Statement.{statement}
 use Rattle.elimination.proofs.internal.solve.solve_balance.Tie as tie
+use Rattle.inputs.proofs.System.{Ready, ready}
 
 -- the tests have passed
 is-ready : (s : tie.Start) → Ready (system (s .args .n) (now (s .args .b-matrix)) (now (s .args .b))) (length (now (s .args .bounds)))

@@ -1,9 +1,10 @@
 use native.Mathlib.Omega.{arith}
 use borrow.Author.Needs.{needs}
-use Rattle.forward.proofs.Index.{row-small, cell-room}
+use Rattle.forward.proofs.Index.{cell-room}
 use Rattle.forward.proofs.Formed.{identity-same, identity-other, entry-fits, entry-ready, entry-placed}
 use Rattle.forward.proofs.internal.formed.formed_entry.Statement.{statement}
 use Rattle.forward.proofs.internal.formed.formed_entry.Tie as tie
+use Rattle.inputs.proofs.Place.{row-small}
 
 mul-p : tie.Need-mul-p
 mul-p c = omega (arith, row-small _ _ (c .pre .0 .few) (c .pre .1))

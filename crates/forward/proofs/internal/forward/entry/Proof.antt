@@ -1,8 +1,9 @@
 use native.Mathlib.Omega.{arith}
 use borrow.Author.Needs.{needs}
-use Rattle.forward.proofs.Index.{row-small, cell-room}
+use Rattle.forward.proofs.Index.{cell-room}
 use Rattle.forward.proofs.internal.forward.entry.Statement.{statement}
 use Rattle.forward.proofs.internal.forward.entry.Tie as tie
+use Rattle.inputs.proofs.Place.{row-small}
 
 mul-reduce : tie.Need-mul-reduce
 mul-reduce c = let s = c .before in omega (arith, row-small (s .args .n) (s .args .i) (s .pre .0 .0 .few) (s .pre .0 .2))

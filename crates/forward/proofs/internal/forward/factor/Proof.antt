@@ -4,13 +4,13 @@ use borrow.Author.Needs.{needs}
 use denote.Ref.{now}
 use Rattle.interval.specs.declared.Interval.{Interval}
 use Rattle.interval.specs.Interval.{inRange, quotient}
-use Rattle.inputs.specs.Place.{at}
-use Rattle.forward.specs.Run.{cell}
-use Rattle.forward.proofs.Index.{row-small, cell-room}
+use Rattle.inputs.specs.Place.{at, cell}
+use Rattle.forward.proofs.Index.{cell-room}
 use Rattle.forward.proofs.Value.{quotient-order}
 use Rattle.forward.proofs.Step.{kept-as, kept-out}
 use Rattle.forward.proofs.internal.forward.factor.Statement.{statement}
 use Rattle.forward.proofs.internal.forward.factor.Tie as tie
+use Rattle.inputs.proofs.Place.{row-small}
 
 mul-p : tie.Need-mul-p
 mul-p c = omega (arith, row-small (c .args .n) (c .args .i) (c .pre .0 .0 .few) (c .pre .0 .2))

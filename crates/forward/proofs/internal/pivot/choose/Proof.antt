@@ -6,13 +6,13 @@ use borrow.Author.Needs.{needs}
 use borrow.Author.Tests.{not-true, not-false}
 use denote.Ref.{now}
 use Rattle.interval.specs.Interval.{containsZero}
-use Rattle.inputs.specs.Place.{at}
-use Rattle.forward.specs.Run.{cell}
+use Rattle.inputs.specs.Place.{at, cell}
 use Rattle.forward.specs.Pivot.{lowestFrom}
-use Rattle.forward.proofs.Index.{row-small, cell-room}
+use Rattle.forward.proofs.Index.{cell-room}
 use Rattle.forward.proofs.Pivot.{search-end, search-go, search-found, search-whole}
 use Rattle.forward.proofs.internal.pivot.choose.Statement.{statement}
 use Rattle.forward.proofs.internal.pivot.choose.Tie as tie
+use Rattle.inputs.proofs.Place.{row-small}
 
 abbrev Inv-loop : tie.InvT-loop
 Inv-loop n k t i₀ i = (k ≤ i) × (i ≤ n) × (lowestFrom n k (n - k) k t ≡ lowestFrom n k (n - i) i t)

@@ -8,11 +8,11 @@ use mir.Syntax.{w64}
 use mir.Val.{toZ}
 use mir.ValLaws.{toZ-ofZ}
 use Rattle.forward.specs.Forward.{table}
-use Rattle.forward.proofs.Index.{row-small, cell-before}
 use Rattle.forward.proofs.Pivot.{Serves}
 use Rattle.forward.proofs.Forward.{took-none, took-row, row-serves}
 use Rattle.forward.proofs.internal.pivot.pivot.Statement.{statement}
 use Rattle.forward.proofs.internal.pivot.pivot.Tie as tie
+use Rattle.inputs.proofs.Place.{row-small, cell-before}
 
 abbrev start : tie.After-i → tie.Start
 start c = c .before .before .before .before

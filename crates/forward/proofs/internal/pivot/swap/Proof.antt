@@ -5,10 +5,10 @@ use borrow.Author.Needs.{needs}
 use lib.ListN.{length}
 use Rattle.inputs.proofs.Tests.{square}
 use Rattle.forward.specs.Pivot.{swappedColumns}
-use Rattle.forward.proofs.Index.{row-small, cell-before}
 use Rattle.forward.proofs.Swap.{swapped-self, exchanged-long, columns-turn, swapped-by}
 use Rattle.forward.proofs.internal.pivot.swap.Statement.{statement}
 use Rattle.forward.proofs.internal.pivot.swap.Tie as tie
+use Rattle.inputs.proofs.Place.{row-small, cell-before}
 
 abbrev Inv-loop : tie.InvT-loop
 Inv-loop n k i t₀ j₀ t j =

@@ -4,15 +4,14 @@ use mathlib.Core.List.{[]}
 use Prim.Native.Nat.{_*_, _≤_}
 use native.Mathlib.Omega.{arith}
 use denote.Ref.{now}
 use Rattle.inputs.specs.declared.Test.the-variants.{Pass}
 use Rattle.inputs.specs.Tests.{sized, lengths, proper}
 use Rattle.inputs.specs.System.{System, system, slices}
 use Rattle.inputs.specs.Code.{listed}
 use Rattle.inputs.proofs.Tests.{sized-pass, square}
-use Rattle.inputs.proofs.System.{Fitting, fitting}
-use Rattle.elimination.proofs.Call.{tests-size, tests-lengths, tests-matrix, tests-right}
-use Rattle.elimination.proofs.tested.Statement.{statement}
-use Rattle.elimination.proofs.tested.Tie as tie
+use Rattle.inputs.proofs.System.{Fitting, fitting, tests-size, tests-lengths, tests-matrix, tests-right}
+use Rattle.inputs.proofs.internal.tested.Statement.{statement}
+use Rattle.inputs.proofs.internal.tested.Tie as tie
 
 abbrev lent : tie.Start → System
 lent c = system (c .args .n) (now (c .args .matrix)) (now (c .args .right))
