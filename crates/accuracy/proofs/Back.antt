@@ -21,10 +21,11 @@ use Rattle.inputs.proofs.Place.{length-put, at-put-same, at-put-other, cell-bef
 use Rattle.rows.specs.Sum.{RowSum}
 use Rattle.rows.specs.Exact.{nought, exactRow, Encloses}
 use Rattle.outcome.specs.Run.{done}
+use Rattle.outcome.proofs.Run.{done-same}
 use Rattle.forward.specs.Run.{rhs}
 use Rattle.elimination.specs.Back.{numerator, back}
 use Rattle.forward.specs.Code.{Pivots}
-use Rattle.forward.proofs.Run.{done-same, ranged}
+use Rattle.forward.proofs.Run.{ranged}
 use Rattle.accuracy.proofs.Common.{ratio}
 use Rattle.accuracy.proofs.Row.{Row, dot, Holds, Met}
 use Rattle.accuracy.proofs.Sum.{parts, sum-same, dot-shift}

@@ -20,12 +20,12 @@ use Rattle.rows.specs.Sum.{RowSum, singly}
 use Rattle.rows.specs.Exact.{Encloses}
 use Rattle.rows.proofs.Enclosed.{singly-encloses}
 use Rattle.outcome.specs.Run.{Run, done}
+use Rattle.outcome.proofs.Run.{never, done-same, joined}
 use Rattle.forward.specs.Run.{rhs}
 use Rattle.forward.specs.Formed.{identity}
 use Rattle.forward.specs.Pivot.{lowestRow}
 use Rattle.forward.specs.Forward.{table}
 use Rattle.elimination.specs.Call.{copied, noneTaken, solved, runA, runB}
-use Rattle.forward.proofs.Run.{never, done-same, joined}
 use Rattle.forward.proofs.Kept.{forward-pivots}
 use Rattle.elimination.proofs.Call.{copied-working}
 use Rattle.accuracy.specs.Solution.{Solution, InBox, balanceOf}

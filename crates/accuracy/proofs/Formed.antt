@@ -21,9 +21,10 @@ use Rattle.fraction.specs.Fraction.{Inside}
 use Rattle.inputs.specs.Place.{at, put, cell}
 use Rattle.inputs.proofs.Place.{length-put, at-put-other}
 use Rattle.outcome.specs.Run.{done}
+use Rattle.outcome.proofs.Run.{done-same, joined}
 use Rattle.forward.specs.Formed.{identity, formedRow, formedRows}
 use Rattle.inputs.proofs.Tests.{rows-apart}
-use Rattle.forward.proofs.Run.{done-same, joined, ranged}
+use Rattle.forward.proofs.Run.{ranged}
 use Rattle.accuracy.proofs.Common.{ratio}
 use Rattle.accuracy.proofs.Row.{dot}
 use Rattle.accuracy.proofs.Written.{Written, written-none, written-more}

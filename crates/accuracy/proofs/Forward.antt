@@ -14,11 +14,12 @@ use Rattle.interval.specs.Interval.{containsZero, exactDifference, product, quo
 use Rattle.inputs.specs.Place.{at, put, cell}
 use Rattle.inputs.proofs.Place.{length-put, at-put-same, at-put-other, cell-before}
 use Rattle.outcome.specs.Run.{done}
+use Rattle.outcome.proofs.Run.{done-same, joined}
 use Rattle.forward.specs.Run.{rhs}
 use Rattle.forward.specs.Pivot.{lowestRow, swapped}
 use Rattle.forward.specs.Forward.{Table, reduced, columns, rightSide, rows, pivots, forward}
 use Rattle.inputs.proofs.Tests.{rows-apart}
-use Rattle.forward.proofs.Run.{done-same, joined, ranged, Stepped, stepped}
+use Rattle.forward.proofs.Run.{ranged, Stepped, stepped}
 use Rattle.forward.proofs.Swap.{Swapped}
 use Rattle.forward.proofs.Kept.{step-serves, step-swapped, step-long, step-room, step-apart}
 use Rattle.accuracy.proofs.Written.{Written, written-none, written-more}

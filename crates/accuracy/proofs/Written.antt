@@ -11,7 +11,7 @@ use Rattle.interval.specs.declared.Interval.{Interval}
 use Rattle.inputs.specs.Place.{at, put, cell}
 use Rattle.inputs.proofs.Place.{length-put, at-put-same, at-put-other, cell-before}
 use Rattle.outcome.specs.Run.{done}
-use Rattle.forward.proofs.Run.{done-same}
+use Rattle.outcome.proofs.Run.{done-same}
 
 -- d cells of row i from column j on have changed from t to t′, that of column l to f t l
 pub record Written (n i : ℕ) (f : List ℤ → ℕ → Interval) (d j : ℕ) (t t′ : List ℤ) : Type 0 where

@@ -10,7 +10,7 @@ use Rattle.outcome.specs.declared.Outcome.{Outcome}
 use Rattle.outcome.specs.declared.Outcome.the-variants as outcome
 use Rattle.outcome.specs.Table.{numberAndPlace}
 use Rattle.outcome.specs.Run.{Run, refused, done, andThen, ended, written}
-use Rattle.outcome.proofs.Run.{Refuses}
+use Rattle.outcome.proofs.Run.{Refuses, done-same, refused-same, not-refused}
 use Rattle.inputs.specs.declared.Test.{Test}
 use Rattle.inputs.specs.declared.Test.the-variants.{Pass, Fail}
 use Rattle.inputs.specs.Place.{at, cell}
@@ -21,7 +21,7 @@ use Rattle.rows.specs.Sum.{singly}
 use Rattle.forward.specs.Pivot.{lowestRow, swapped}
 use Rattle.forward.specs.Forward.{Table, table, taking, rows, pivots, forward}
 use Rattle.forward.specs.Formed.{formedRows}
-use Rattle.forward.proofs.Run.{done-same, refused-same, not-refused, stepped}
+use Rattle.forward.proofs.Run.{stepped}
 use Rattle.forward.proofs.Pivot.{refused-five, five}
 use Rattle.elimination.specs.Back.{back}
 use Rattle.elimination.specs.Call.{copied, box, noneTaken, solved, runA, runB}

@@ -14,11 +14,12 @@ use Rattle.inputs.specs.Place.{at, put, cell}
 use Rattle.inputs.proofs.Place.{length-put, at-put-other, cell-before}
 use Rattle.inputs.proofs.Tests.{rows-apart}
 use Rattle.outcome.specs.Run.{done}
+use Rattle.outcome.proofs.Run.{done-same, joined}
 use Rattle.forward.specs.Run.{rhs}
 use Rattle.forward.specs.Pivot.{lowestRow, swapped}
 use Rattle.forward.specs.Forward.{Table, table, columns, rightSide, rows, pivots, forward}
 use Rattle.forward.specs.Code.{Pivots}
-use Rattle.forward.proofs.Run.{done-same, joined, ranged, Stepped, stepped}
+use Rattle.forward.proofs.Run.{ranged, Stepped, stepped}
 use Rattle.forward.proofs.Pivot.{Serves, serves}
 use Rattle.forward.proofs.Swap.{Swapped, rows-swapped}
 

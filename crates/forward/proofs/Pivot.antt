@@ -10,10 +10,10 @@ use lib.IntN.{ℤ}
 use Rattle.outcome.specs.declared.Outcome.{Outcome}
 use Rattle.outcome.specs.declared.Outcome.the-variants as outcome
 use Rattle.outcome.specs.Run.{Run, refused, done}
+use Rattle.outcome.proofs.Run.{never, done-same, refused-same, not-refused}
 use Rattle.interval.specs.Interval.{containsZero}
 use Rattle.inputs.specs.Place.{at, cell}
 use Rattle.forward.specs.Pivot.{lowestFrom, lowestRow}
-use Rattle.forward.proofs.Run.{never, done-same, refused-same, not-refused}
 use Rattle.forward.proofs.Step.{turn}
 
 -- ---- a row that serves

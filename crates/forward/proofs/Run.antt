@@ -3,41 +3,17 @@ use mathlib.Core.Path.{_≡_, refl}
 use mathlib.Core.Bool.{Bool, true, false, cond}
 use mathlib.Core.List.{List}
 use Prim.Native.Nat.{ℕ, suc, _+_, _-_}
-use native.Mathlib.Omega.{arith}
 use lib.IntN.{ℤ, pos}
 use lib.ListN.{set}
-use Rattle.outcome.specs.declared.Outcome.{Outcome}
 use Rattle.outcome.specs.declared.Outcome.the-variants as outcome
 use Rattle.interval.specs.declared.Interval.{Interval}
 use Rattle.interval.specs.Interval.{inRange}
 use Rattle.inputs.specs.Place.{at, cell}
-use Rattle.outcome.specs.Run.{Run, refused, done, andThen}
+use Rattle.outcome.specs.Run.{Run, refused, done}
+use Rattle.outcome.proofs.Run.{never, done-same, joined}
 use Rattle.forward.specs.Run.{inRangeThen}
 use Rattle.forward.specs.Pivot.{Pivoting, swapped}
 use Rattle.forward.specs.Forward.{Table, table, taking, rows, pivots}
-
--- a run that stopped did not go to its end
-pub never : {A B : Type 0} {o : Outcome} {b : B} → refused o ≡ done b → A
-never e = let z : _≡_ {A = ℕ} 0 1 = cc in absurd (omega arith)
-
-pub done-same : {A : Type 0} {a b : A} → done a ≡ done b → a ≡ b
-done-same e = cc
-
-pub refused-same : {A : Type 0} {o p : Outcome} → _≡_ {A = Run A} (refused o) (refused p) → o ≡ p
-refused-same e = cc
-
-pub not-refused : {A B : Type 0} {a : A} {o : Outcome} → done a ≡ refused o → B
-not-refused e = let z : _≡_ {A = ℕ} 0 1 = cc in absurd (omega arith)
-
-pub record Joined {A B : Type 0} (r : Run A) (f : A → Run B) (b : B) : Type 0 where
-  pub mid : A
-  pub first : r ≡ done mid
-  pub rest : f mid ≡ done b
-
-pub joined : {A B : Type 0} (r : Run A) (f : A → Run B) (b : B) → andThen r f ≡ done b → Joined r f b
-unfolding andThen
-joined (refused o) f b e = never e
-joined (done a) f b e = record { mid = a; first = refl; rest = e }
 
 pub record Ranged (v : Interval) (f : Interval → Run (List ℤ)) (t : List ℤ) : Type 0 where
   pub in-range : inRange v ≡ true

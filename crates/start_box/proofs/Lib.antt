@@ -1,0 +1,5 @@
+pub mod Magnitude
+pub mod Lines
+pub mod Sums
+pub mod Reach
+pub mod Widen

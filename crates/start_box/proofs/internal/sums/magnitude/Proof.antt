@@ -1,0 +1,24 @@
+use mathlib.Core.Path.{_∙_}
+use borrow.Author.Needs.{needs}
+use mir.Syntax.{w64}
+use mir.ValLaws.{toZ-ofZ}
+use Rattle.integer.proofs.Machine.{plain}
+use Rattle.interval.proofs.Range.{is-sound, turn-fits, read}
+use Rattle.start_box.proofs.Magnitude.{magnitude-is}
+use Rattle.start_box.proofs.internal.sums.magnitude.Statement.{statement}
+use Rattle.start_box.proofs.internal.sums.magnitude.Tie as tie
+
+sub-a : tie.Need-sub-a
+sub-a c = let h = is-sound _ (c .before .before .pre) in search (needs, turn-fits)
+
+max-of-requires : tie.Need-max-of-requires
+max-of-requires c κs = search needs
+
+returns : tie.Need-returns
+returns c =
+    let e = c .before .before .before .before .pre in
+    let h = is-sound _ e in
+    plain _ (c .max-of .ok) ∙ c .max-of .ensures ∙ rw (read (h .lo-in), read (h .hi-in), toZ-ofZ w64 _ (turn-fits (h .lo-in))) (magnitude-is _ e)
+
+pub magnitude-spec : {M : Type 1} → statement M
+magnitude-spec = tie.close (tie.spec sub-a max-of-requires returns)

@@ -1,0 +1,4 @@
+pub mod Sums
+pub mod Reach
+pub mod Call
+pub mod Code
