@@ -1,4 +1,5 @@
 // The calls for programs in C and Rust, in the archive that 'rt staticlib capi' makes.
+pub mod boxes;
 pub mod steps;
 pub mod sweeps;
 pub mod systems;

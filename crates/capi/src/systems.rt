@@ -7,7 +7,7 @@ ghost use Rattle.inputs.specs.System.{system};
 ghost use Rattle.elimination.specs.Call.{overA, overB};
 ghost use Rattle.capi.specs.Flat.{callOf};
 
-// A call's answer: document 01's number and place, and a count: of whole sweeps, of the bytes of a sheet, and 0 for an elimination.
+// A call's answer: document 01's number and place, and a count: of whole sweeps, of the bytes of a sheet, and 0 for an elimination and a start box.
 #[repr(C)]
 pub struct KifwalebOutcome {
     pub number: u64,

@@ -6,11 +6,14 @@
 //     A               elimination from A and f
 //     B               elimination from B and b
 //     S allowed       sweeps
+//     X               the start box from B and b
+//   C n f s           the narrower of two boxes: n, their lengths, and so many numbers; printed are the length and the numbers of the one handed back
 //   T length          a text: a line end, and so many bytes; then its cases:
 //     R m r           its numbers, into slices of these lengths; n stands for the count
 //     N vat           the name of a vat: its length and its bytes
 //     W length        its sheet or its refusal, into a slice of this length
 //     P length        what 'balance' prints for it, into a slice of this length
+mod boxes;
 mod file;
 mod lines;
 mod steps;
@@ -27,6 +30,7 @@ fn run(cases: &[u8], at: usize) -> usize {
     match letter {
         b'+' | b'-' | b'*' | b'/' => steps::step(cases, h),
         b'M' => systems::system(cases, h.at),
+        b'C' => boxes::pair(cases, h),
         b'T' => texts::text(cases, h.at),
         b'#' => line_end(cases, h.at),
         0 => cases.len(),

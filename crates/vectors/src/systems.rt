@@ -7,12 +7,13 @@ use crate::file::room;
 use crate::lines;
 use elimination::eliminate;
 use elimination::eliminate_balance;
+use start_box::start_box;
 use sweep::Swept;
 use sweep::sweep;
 
 fn is_call(letter: u8) -> bool {
     match letter {
-        b'A' | b'B' | b'S' => true,
+        b'A' | b'B' | b'S' | b'X' => true,
         _ => false,
     }
 }
@@ -25,7 +26,7 @@ fn allowance(file: &[u8], h: Head) -> Natural {
     Natural { value: 0, at: h.at }
 }
 
-// What a call returns. An elimination has no count.
+// What a call returns. An elimination has no count, nor has a start box.
 fn answer(
     letter: u8,
     n: usize,
@@ -40,6 +41,10 @@ fn answer(
     }
     if letter == b'B' {
         let outcome = eliminate_balance(n, matrix, right, bounds);
+        return Swept { outcome, count: 0 };
+    }
+    if letter == b'X' {
+        let outcome = start_box(n, matrix, right, bounds);
         return Swept { outcome, count: 0 };
     }
     sweep(n, matrix, right, bounds, allowed)
