@@ -4,6 +4,9 @@ use mathlib.Core.Bool.{true}
 use native.Mathlib.Omega.{arith}
 use lib.IntN.{ℤ, pos, negsuc, negℤ, _-ℤ_}
 use lib.Signed.{_≤ℤ_, _<ℤ_}
+use mir.Syntax.{w64}
+use mir.Val.{toZ, ofZ}
+use mir.ValLaws.{toZ-ofZ}
 use Rattle.integer.specs.Extremes.{maximum}
 use Rattle.integer.proofs.Linear.{linear, over}
 use Rattle.integer.proofs.Order.{trans, antisym, lt-le}
@@ -11,7 +14,7 @@ use Rattle.integer.proofs.Extremes.{max-ind, le-max-left, le-max-right, max-le}
 use Rattle.integer.proofs.Summing.{Term}
 use Rattle.interval.specs.declared.Interval.{Interval}
 use Rattle.interval.specs.Interval.{lowest, highest, acceptable}
-use Rattle.interval.proofs.Range.{Within, is-sound}
+use Rattle.interval.proofs.Range.{Within, is-sound, turn-fits, read}
 use Rattle.start_box.specs.Sums.{absolute, magnitude}
 
 pub absolute-above : (z : ℤ) → pos 0 ≤ℤ absolute z
@@ -39,6 +42,10 @@ magnitude-term v e =
       above = trans (absolute-above (v .lo)) (le-max-left _ (absolute (v .hi)));
       at-most = max-le _ _ highest (absolute-at-most (s .lo-in)) (absolute-at-most (s .hi-in));
     }
+
+-- an end with its sign turned, as the code has it
+pub turned-read : {z : ℤ} → Within z → toZ w64 (ofZ w64 (pos 0 -ℤ toZ w64 (ofZ w64 z))) ≡ pos 0 -ℤ z
+turned-read {z} h = rw (read h) (toZ-ofZ w64 (pos 0 -ℤ z) (turn-fits h))
 
 -- with the ends in sequence, two of the four numbers are enough
 pub magnitude-is : (v : Interval) → acceptable v ≡ true → maximum (pos 0 -ℤ v .lo) (v .hi) ≡ magnitude v

@@ -82,8 +82,11 @@ loop-again : tie.Need-loop-again Inv-loop μ-loop
 loop-again c =
     let d = c .before .before .before .before in
     let l = d .before .before .before .before in
-    let fits : SFits w64 (c .before .before .q .given .0 .0) = search needs in
-    (omega arith, l .loop .inv .1 ∙ rows-go _ _ _ (d .before .before .before .loop-test .taken) (ap reachOf (sym (c .before .before .q .given .1)) ∙ row-is d) ∙ ap (overRows _ _ _) (sym (plain _ (c .max-of .ok) ∙ c .max-of .ensures ∙ ap (maximum _) (toZ-ofZ w64 _ fits))))
+    let q = c .before .before .q .given .0 .0 in
+    let fits : SFits w64 q = search needs in
+    let next : toZ w64 (ofZ w64 (c .max-of .result)) ≡ maximum (toZ w64 (l .loop .most)) q =
+    plain _ (c .max-of .ok) ∙ c .max-of .ensures ∙ ap (maximum (toZ w64 (l .loop .most))) (toZ-ofZ w64 q fits) in
+    (omega arith, l .loop .inv .1 ∙ rows-go _ _ _ (d .before .before .before .loop-test .taken) (ap reachOf (sym (c .before .before .q .given .1)) ∙ row-is d) ∙ ap (overRows _ _ _) (sym next))
 
 returns-2 : tie.Need-returns-2 Inv-loop μ-loop
 returns-2 c = sym (c .before .loop .inv .1 ∙ rows-end _ _ _ (c .loop-test .left))
