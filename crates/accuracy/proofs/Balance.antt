@@ -25,25 +25,25 @@ use Rattle.accuracy.proofs.Formed.{wholes, identity-inside, dot-identit
 
 -- ---- one row: the shares and the constant over one denominator
 module _ (n : ℕ) (coefficient : ℕ → Fraction) (constant : Fraction) where
-  shares : Common n coefficient
+  pub shares : Common n coefficient
   shares = common n coefficient
 
-  abbrev den : ℤ
+  abbrev pub den : ℤ
   den = shares .den *ℤ constant .den
 
-  abbrev den-above : pos 0 <ℤ den
+  abbrev pub den-above : pos 0 <ℤ den
   den-above = both-pos (shares .den) (constant .den) (shares .above) (constant .above)
 
-  abbrev over-den : ℕ → ℤ
+  abbrev pub over-den : ℕ → ℤ
   over-den j = shares .num j *ℤ constant .den
 
-  abbrev delivered : ℤ
+  abbrev pub delivered : ℤ
   delivered = constant .num *ℤ shares .den
 
-  coefficient-same : (j : ℕ) → j < n → Same (ratio (over-den j) den den-above) (coefficient j)
+  pub coefficient-same : (j : ℕ) → j < n → Same (ratio (over-den j) den den-above) (coefficient j)
   coefficient-same j h = widen-same (constant .den) (constant .above) (shares .same j h)
 
-  delivered-same : Same (ratio delivered den den-above) constant
+  pub delivered-same : Same (ratio delivered den den-above) constant
   delivered-same = own-same (shares .den) (shares .above) constant
 
   -- row i of I − B
@@ -93,17 +93,18 @@ module _ (n : ℕ) (coefficient : ℕ → Fraction) (constant : Fraction) where
     weigh : (w m q s : ℤ) → w *ℤ (m *ℤ q *ℤ s) ≡ (m *ℤ s *ℤ w) *ℤ q
     weigh = over 4 _ (λ ρ. simp reading (ring _ _ _ tt))
 
+    -- the row in whole numbers, with the shares on their own side
+    pub balance-whole : Same (x i) (exactRow coefficient x n 0 constant) → den *ℤ scale *ℤ weights .num i ≡ side +ℤ total
+    balance-whole e =
+        cancel-same _ _ (weights .den) (weights .above)
+        (sym (weigh (weights .num i) den (weights .den) scale) ∙ same-trans (weights .same i h) (same-trans e (same-sym total-same)) .holds)
+
     to-met : Same (x i) (exactRow coefficient x n 0 constant) → Met n 0 (rowOf i) (common n x .num) (common n x .den)
     unfolding rowOf
-    to-met e = record { exact = λ d l. let f : d ≡ n = omega arith in rw f (row-sum ∙ move _ _ _ whole) }
+    to-met e = record { exact = λ d l. let f : d ≡ n = omega arith in rw f (row-sum ∙ move _ _ _ (balance-whole e)) }
       where
         move : (a b c : ℤ) → a ≡ c +ℤ b → a -ℤ pos 1 *ℤ b ≡ c
         move = over 3 _ (λ ρ. simp (linear, ρ) (omega arith))
-
-        whole : den *ℤ scale *ℤ weights .num i ≡ side +ℤ total
-        whole =
-            cancel-same _ _ (weights .den) (weights .above)
-            (sym (weigh (weights .num i) den (weights .den) scale) ∙ same-trans (weights .same i h) (same-trans e (same-sym total-same)) .holds)
 
     from-met : Met n 0 (rowOf i) (common n x .num) (common n x .den) → Same (x i) (exactRow coefficient x n 0 constant)
     unfolding rowOf

@@ -1,5 +1,5 @@
 -- Elimination encloses every exact solution.
-use mathlib.Core.Path.{_≡_, refl, sym, ap, _∙_}
+use mathlib.Core.Path.{_≡_, sym, ap, _∙_}
 use mathlib.Core.Logic.{inr}
 use mathlib.Core.List.{List}
 use Prim.Native.Nat.{ℕ, _+_, _*_, _≤_, _<_}
@@ -10,17 +10,15 @@ use lib.Signed.{_<ℤ_}
 use Rattle.interval.specs.Interval.{exactDifference}
 use Rattle.fraction.specs.Fraction.{Fraction, Inside}
 use Rattle.fraction.proofs.Inside.{inside-same}
-use Rattle.inputs.specs.declared.Test.{Test}
-use Rattle.inputs.specs.declared.Test.the-variants.{Pass, Fail}
 use Rattle.inputs.specs.Place.{at, cell}
-use Rattle.inputs.specs.Tests.{tested}
 use Rattle.inputs.specs.System.{System, tests}
 use Rattle.inputs.proofs.System.{ready}
+use Rattle.inputs.proofs.Accepted.{tested-done}
 use Rattle.rows.specs.Sum.{RowSum, singly}
 use Rattle.rows.specs.Exact.{Encloses}
 use Rattle.rows.proofs.Enclosed.{singly-encloses}
-use Rattle.outcome.specs.Run.{Run, done}
-use Rattle.outcome.proofs.Run.{never, done-same, joined}
+use Rattle.outcome.specs.Run.{done}
+use Rattle.outcome.proofs.Run.{done-same, joined}
 use Rattle.forward.specs.Run.{rhs}
 use Rattle.forward.specs.Formed.{identity}
 use Rattle.forward.specs.Pivot.{lowestRow}
@@ -69,12 +67,6 @@ module _ (sum : RowSum) (encloses : Encloses sum) (s : System) (t X : List ℤ) 
             (λ i l. balance-met (s .size) (c .coefficient i) (c .constant i) x i l .0 (sol .meets .row i l))
             j h);
       }
-
--- ---- a call that went to its end passed its tests
-tested-done : (t : Test) (r : Run (List ℤ)) (X : List ℤ) → tested t r ≡ done X → (t ≡ Pass) × (r ≡ done X)
-unfolding tested
-tested-done Pass r X e = (refl, e)
-tested-done (Fail o) r X e = never e
 
 -- the call over A and f: the list holds A, which is I − (I − A)
 pub over-A : (s : System) (l : ℕ) (X : List ℤ) → runA lowestRow s l ≡ done X → (x : ℕ → Fraction) → Solution (balanceOf s) x → InBox (s .size) X x

@@ -9,7 +9,7 @@ use lib.IntN.{ℤ}
 use Rattle.outcome.specs.declared.Outcome.{Outcome}
 use Rattle.outcome.specs.Table.{numberAndPlace}
 use Rattle.outcome.specs.Run.{Run, refused, done, written, ended}
-use Rattle.outcome.proofs.Run.{Refuses, refuses-with}
+use Rattle.outcome.proofs.Run.{Refuses, refuses-with, never}
 use Rattle.inputs.specs.declared.Test.{Test}
 use Rattle.inputs.specs.declared.Test.the-variants.{Pass, Fail}
 use Rattle.inputs.specs.Tests.{tested}
@@ -45,3 +45,9 @@ not-spent (refused o) lent h e =
     let z : true ≡ false = rw (ne-eqb n 0 (omega (arith, e)), eq-eqb n 9 e) at (h .where-refused) in
     subst T z tt
 not-spent (done t) lent h e = omega (arith, e)
+
+-- ---- and passed its tests
+pub tested-done : (t : Test) (r : Run (List ℤ)) (x : List ℤ) → tested t r ≡ done x → (t ≡ Pass) × (r ≡ done x)
+unfolding tested
+tested-done Pass r x e = (refl, e)
+tested-done (Fail o) r x e = never e

@@ -74,18 +74,25 @@ total-same k (suc d) j = rw (total-same k d (j + 1)) (simp differences (omega ar
 pub total-at-most : (f : ℕ → ℤ) (k d j : ℕ) → ((l : ℕ) → j ≤ l → l < j + d → f l ≤ℤ pos k) → total f d j ≤ℤ pos (k * d)
 total-at-most f k d j h = rw (total-same k d j) at (total-mono f (λ l. pos k) d j h)
 
+-- of i, i + 1, ..: the first, or one of the others
+pub first-or-later : (P : ℕ → Type 0) (i l : ℕ) → i ≤ l → P i → (i + 1 ≤ l → P l) → P l
+first-or-later P i l h first later = go (ℕ-discrete l i)
+  where
+    go : Dec (l ≡ i) → P l
+    go (yes e) = rw e first
+    go (no e) = later (omega (arith, e))
+
 -- one term is at most the sum of terms that are not negative
 pub total-term : (f : ℕ → ℤ) (d i : ℕ) → ((l : ℕ) → i ≤ l → l < i + d → pos 0 ≤ℤ f l) → (j : ℕ) → i ≤ j → j < i + d → f j ≤ℤ total f d i
 unfolding total
 total-term f zero i h j a b = absurd (omega arith)
-total-term f (suc d) i h j a b = go (λ e. total-term f d (i + 1) (λ l u v. h l (omega arith) (omega arith)) j (omega (arith, e)) (omega arith)) (ℕ-discrete j i)
+total-term f (suc d) i h j a b =
+    first-or-later (λ k. f k ≤ℤ (f i +ℤ total f d (i + 1))) i j a
+    (first (f i) _ (total-above f d (i + 1) (λ l u v. h l (omega arith) (omega arith))))
+    (λ c. trans (total-term f d (i + 1) (λ l u v. h l (omega arith) (omega arith)) j c (omega arith)) (other (f i) _ (h i (omega arith) (omega arith))))
   where
     first : (a b : ℤ) → pos 0 ≤ℤ b → a ≤ℤ (a +ℤ b)
     first = over 2 _ (λ ρ. simp (linear, ρ) (omega arith))
 
     other : (a b : ℤ) → pos 0 ≤ℤ a → b ≤ℤ (a +ℤ b)
     other = over 2 _ (λ ρ. simp (linear, ρ) (omega arith))
-
-    go : ((j ≡ i → ⊥) → f j ≤ℤ total f d (i + 1)) → Dec (j ≡ i) → f j ≤ℤ (f i +ℤ total f d (i + 1))
-    go r (yes e) = rw e (first (f i) _ (total-above f d (i + 1) (λ l u v. h l (omega arith) (omega arith))))
-    go r (no e) = trans (r e) (other (f i) _ (h i (omega arith) (omega arith)))

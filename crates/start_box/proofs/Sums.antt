@@ -3,12 +3,12 @@ use mathlib.Core.Path.{_≡_}
 use mathlib.Core.Bool.{true, false}
 use Prim.Native.Nat.{ℕ, zero, suc, _+_, _-_, _≤_, _<_}
 use native.Mathlib.Omega.{arith}
-use native.Mathlib.Decide.{ℕ-discrete}
 use lib.IntN.{ℤ}
 use lib.Signed.{_≤ℤ_, _<ℤ_, ltZ, leZ, ≤ℤ-refl}
 use Rattle.integer.specs.Extremes.{maximum}
 use Rattle.integer.proofs.Order.{taken, le-taken, le-left, yes-lt, no-lt, trans}
-use Rattle.integer.proofs.Extremes.{max-ind, le-max-left}
+use Rattle.integer.proofs.Extremes.{max-ind, le-max-left, le-max-right}
+use Rattle.integer.proofs.Total.{first-or-later}
 use Rattle.interval.specs.Interval.{scale}
 use Rattle.interval.proofs.Range.{and-both}
 use Rattle.start_box.specs.Sums.{allBelowOne, greatest}
@@ -50,20 +50,27 @@ module _ (f : ℕ → ℤ) where
   below-each zero i e l a b = absurd (omega arith)
   below-each (suc d) i e l a b =
       let t = and-both (ltZ (f i) scale) (allBelowOne f d (i + 1)) e in
-      go (taken (f i) scale (t .0)) (λ n. below-each d (i + 1) (t .1) l (omega (arith, n)) (omega arith)) (ℕ-discrete l i)
-    where
-      go : f i <ℤ scale → ((l ≡ i → ⊥) → f l <ℤ scale) → Dec (l ≡ i) → f l <ℤ scale
-      go h k (yes g) = rw g h
-      go h k (no g) = k g
+      first-or-later (λ k. f k <ℤ scale) i l a (taken (f i) scale (t .0)) (λ c. below-each d (i + 1) (t .1) l c (omega arith))
+
+  -- what holds of the first number and of each other holds of the greatest
+  pub greatest-ind : (P : ℤ → Type 0) (d i : ℕ) (first : ℤ) → P first → ((l : ℕ) → i ≤ l → l < i + d → P (f l)) → P (greatest f d i first)
+  unfolding greatest
+  greatest-ind P zero i first p h = p
+  greatest-ind P (suc d) i first p h =
+      greatest-ind P d (i + 1) (maximum first (f i)) (max-ind first (f i) P (λ e. h i (omega arith) (omega arith)) (λ e. p)) (λ l a b. h l (omega arith) (omega arith))
 
   pub greatest-below : (d i : ℕ) (first : ℤ) → allBelowOne f d i ≡ true → first <ℤ scale → greatest f d i first <ℤ scale
-  unfolding allBelowOne greatest
-  greatest-below zero i first e h = h
-  greatest-below (suc d) i first e h =
-      let t = and-both (ltZ (f i) scale) (allBelowOne f d (i + 1)) e in
-      greatest-below d (i + 1) (maximum first (f i)) (t .1) (max-ind first (f i) (λ m. m <ℤ scale) (λ k. taken (f i) scale (t .0)) (λ k. h))
+  greatest-below d i first e h = greatest-ind (λ z. z <ℤ scale) d i first h (below-each d i e)
 
+  -- none is above it
   pub greatest-first : (d i : ℕ) (first : ℤ) → first ≤ℤ greatest f d i first
   unfolding greatest
   greatest-first zero i first = ≤ℤ-refl first
   greatest-first (suc d) i first = trans (le-max-left first (f i)) (greatest-first d (i + 1) (maximum first (f i)))
+
+  pub greatest-each : (d i : ℕ) (first : ℤ) (l : ℕ) → i ≤ l → l < i + d → f l ≤ℤ greatest f d i first
+  unfolding greatest
+  greatest-each zero i first l a b = absurd (omega arith)
+  greatest-each (suc d) i first l a b =
+      let m = maximum first (f i) in
+      first-or-later (λ k. f k ≤ℤ greatest f d (i + 1) m) i l a (trans (le-max-right first (f i)) (greatest-first d (i + 1) m)) (λ c. greatest-each d (i + 1) m l c (omega arith))
