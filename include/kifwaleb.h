@@ -5,8 +5,8 @@
  * makes. It is for x86-64 Linux.
  *
  * THE INTERFACE IS NOT FROZEN. A later version adds a slice of load-cell
- * readings to the two eliminations and to the sweep. Header and archive must
- * come from the same version: C does not notice if they do not.
+ * readings to the two eliminations, the start box and the sweep. Header and
+ * archive must come from the same version: C does not notice if they do not.
  *
  * Numbers are counts of units of one millionth: of a whole for shares, of a
  * tonne (so one gram) for weights. An interval is two of them, lower end then
@@ -17,8 +17,9 @@
  *
  * A slice is passed as a pointer and a length, which counts numbers or bytes.
  * All numbers, lengths and texts are tested: a wrong one is refused with a number
- * and a place, and no refusal changes anything that was lent. Pointers cannot be
- * tested. It is the caller who sees to it that
+ * and a place, and no refusal changes anything that was lent. kifwaleb_narrower
+ * alone refuses nothing: it takes a wrong box for the wider one. Pointers cannot
+ * be tested. It is the caller who sees to it that
  * - no pointer is null, also with length 0, and each is aligned for its type;
  * - as many numbers or bytes as the length says lie there, all of them set, also
  *   in a slice that a call only writes;
@@ -75,7 +76,7 @@ enum KifwalebNumber {
      * step that finds no row without 0 in its column; in a single step it is 0. */
     KIFWALEB_CONTAINS_ZERO = 5,
     /* A result is out of the range. The place is the row, after the swaps so far; in
-     * a single step 0. */
+     * a single step and for a start box it is 0. */
     KIFWALEB_OUT_OF_RANGE = 6,
     /* The start box holds no solution. The place is the vat at which that was
      * found. */
@@ -85,7 +86,18 @@ enum KifwalebNumber {
     KIFWALEB_TEXT = 8,
     /* The last sweep allowed still changed the box; the result is written, and more
      * sweeps might tighten it. Place 0. */
-    KIFWALEB_SPENT = 9
+    KIFWALEB_SPENT = 9,
+    /* Neither do all rows of the shares' magnitudes come to less than one, nor do all
+     * columns. Only kifwaleb_start_box returns it. Place 0. */
+    KIFWALEB_SUMS = 10
+};
+
+/* What kifwaleb_narrower returns. These are no outcome numbers: they name a box. */
+enum KifwalebNarrower {
+    /* Neither box is one. */
+    KIFWALEB_NEITHER = 0,
+    KIFWALEB_FIRST = 1,
+    KIFWALEB_SECOND = 2
 };
 
 /* What a single step answers. lo and hi are the result; on a refusal both are 0. */
@@ -96,8 +108,8 @@ typedef struct KifwalebStep {
     int64_t hi;
 } KifwalebStep;
 
-/* What any other call answers. The count is of whole sweeps, or of the bytes of a
- * sheet; it is 0 for an elimination. */
+/* What any other call but kifwaleb_narrower answers. The count is of whole sweeps,
+ * or of the bytes of a sheet; it is 0 for an elimination and for a start box. */
 typedef struct KifwalebOutcome {
     uint64_t number;
     uint64_t place;
@@ -165,6 +177,32 @@ KifwalebOutcome kifwaleb_eliminate_balance(size_t n,
                                            int64_t *bounds, size_t bounds_len);
 
 /*
+ * Bounds on each component of the solutions x of the balance x = B*x + b, without
+ * elimination: wide ones, from which sweeps can start where an elimination is
+ * refused. Takes n, B and b as above, and a box for the bounds; what the box holds
+ * before does not matter. The magnitude of an interval is the greater of its ends,
+ * signs left off. If in every row the magnitudes of the shares come to less than
+ * one, the reach is the greatest over the rows of: the sum of magnitudes of shares
+ * times those of the deliveries, divided by one less the row's magnitudes. Else, if
+ * they come to less than one in every column, it is the sum of all these products,
+ * divided by one less the greatest column. Each product and each quotient is
+ * rounded up to units. The box is b with every lower end lowered and every upper end
+ * raised by the reach. It holds every solution.
+ * DONE, and the bounds are written to the box; else the first of
+ *   SIZE;
+ *   LENGTH, the place says which slice;
+ *   ENDS, the place counts through matrix and right side;
+ *   SUMS;
+ *   OUT_OF_RANGE with place 0, if a sum of products, a quotient or an end of the
+ *   box is out of the range; a refusal by rows is not tried again by columns.
+ * The count is 0.
+ */
+KifwalebOutcome kifwaleb_start_box(size_t n,
+                                   const int64_t *b_matrix, size_t b_matrix_len,
+                                   const int64_t *b, size_t b_len,
+                                   int64_t *bounds, size_t bounds_len);
+
+/*
  * Tightens bounds on the solutions of x = B*x + b. Takes n, B and b as above, a
  * start box, and the number of sweeps allowed, 1 to 10,000. Every solution in the
  * start box is in the box written, and no bound gets wider.
@@ -190,6 +228,18 @@ KifwalebOutcome kifwaleb_sweep(size_t n,
                                const int64_t *b, size_t b_len,
                                int64_t *bounds, size_t bounds_len,
                                size_t allowed);
+
+/*
+ * Which of two boxes has the smaller sum of widths, a width being the upper end less
+ * the lower end. Takes n and both boxes, which may be the same.
+ * FIRST or SECOND; FIRST if the sums are equal. A slice is no box if n is 0 or above
+ * 32, if it has not 2*n numbers, or if an interval in it has its ends out of sequence
+ * or out of the range. If only one of the two is a box it is that one, and NEITHER if
+ * none is. The answer is one of enum KifwalebNarrower, and no outcome number.
+ */
+uint64_t kifwaleb_narrower(size_t n,
+                           const int64_t *first, size_t first_len,
+                           const int64_t *second, size_t second_len);
 
 /*
  * From a cellar text to its sheet: eliminates from the text's B and b, sweeps with

@@ -28,8 +28,17 @@ impl Side for Archive {
         }
     }
 
+    fn start_box(&self, n: usize, lent: Slices) -> Outcome {
+        lend!(kifwaleb_start_box, n, lent)
+    }
+
     fn sweep(&self, n: usize, lent: Slices, allowed: usize) -> Outcome {
         lend!(kifwaleb_sweep, n, lent, allowed)
+    }
+
+    /// C is told a number; the Rust package makes a slice of it.
+    fn narrower<'a>(&self, n: usize, first: &'a [i64], second: &'a [i64]) -> &'a [i64] {
+        kifwaleb::narrower(n, first, second)
     }
 
     fn report(&self, text: &mut [u8], out: &mut [u8]) -> Outcome {

@@ -2,6 +2,7 @@
 //! for them. Its `main.rt` describes the form.
 
 use crate::case::{Case, Slices};
+use crate::comparison::Boxes;
 use crate::reference::{self, Call, Interval, Operation, Outcome, MOST_EQUATIONS};
 use crate::side::Side;
 use crate::text_case::TextCase;
@@ -16,8 +17,10 @@ pub enum Entry {
     Step(Operation, Interval, Interval),
     System(Case),
     Eliminate(Call),
+    StartBox,
     /// The sweeps allowed.
     Sweep(usize),
+    Narrower(Boxes),
     Text(Vec<u8>),
     /// The numbers of the text, into slices of these lengths.
     Read(usize, usize),
@@ -89,6 +92,12 @@ impl<'a> Rest<'a> {
         }
     }
 
+    fn boxes(&mut self) -> Boxes {
+        let [n, first, second] = [(); 3].map(|_| self.number());
+        let [first, second] = [first, second].map(|length| self.numbers(length));
+        Boxes { n, first, second }
+    }
+
     fn text(&mut self) -> Vec<u8> {
         let length: usize = self.number();
         self.take(1);
@@ -104,7 +113,9 @@ impl<'a> Rest<'a> {
         match letter {
             "A" => Entry::Eliminate(Call::Eliminate),
             "B" => Entry::Eliminate(Call::EliminateBalance),
+            "X" => Entry::StartBox,
             "S" => Entry::Sweep(self.number()),
+            "C" => Entry::Narrower(self.boxes()),
             "R" => Entry::Read(self.number(), self.number()),
             "N" => Entry::Name(self.number()),
             "W" => Entry::Report(self.number()),
@@ -160,7 +171,9 @@ fn letter(call: &Entry) -> char {
         }
         Entry::Eliminate(Call::Eliminate) => 'A',
         Entry::Eliminate(Call::EliminateBalance) => 'B',
+        Entry::StartBox => 'X',
         Entry::Sweep(_) => 'S',
+        Entry::Narrower(_) => 'C',
         Entry::Read(..) => 'R',
         Entry::Name(_) => 'N',
         Entry::Report(_) => 'W',
@@ -173,6 +186,11 @@ fn arguments(call: &Entry) -> String {
     match call {
         Entry::Step(_, a, b) => format!(" {} {} {} {}", a.lo, a.hi, b.lo, b.hi),
         Entry::Read(matrix, right_side) => format!(" {matrix} {right_side}"),
+        Entry::Narrower(Boxes { n, first, second }) => {
+            let lengths = format!(" {n} {} {}", first.len(), second.len());
+            let [first, second] = [first, second].map(|numbers| joined(numbers));
+            format!("{lengths}\n{}\n{}", first.trim_start(), second.trim_start())
+        }
         Entry::Sweep(number)
         | Entry::Name(number)
         | Entry::Report(number)
@@ -225,7 +243,11 @@ pub fn lines(entries: &[Entry], side: &impl Side) -> Vec<String> {
                 (0, 0, lo, hi) => format!(" 0 0 {lo} {hi}"),
                 (number, place, ..) => format!(" {number} {place}"),
             },
-            Entry::Eliminate(_) | Entry::Sweep(_) => {
+            Entry::Narrower(Boxes { n, first, second }) => {
+                let chosen = side.narrower(*n, first, second);
+                format!(" {}{}", chosen.len(), joined(chosen))
+            }
+            Entry::Eliminate(_) | Entry::StartBox | Entry::Sweep(_) => {
                 on_system(entry, lent.as_mut().expect("a system stands before"), side)
             }
             call => on_text(call, &text, side),
@@ -239,6 +261,7 @@ pub fn lines(entries: &[Entry], side: &impl Side) -> Vec<String> {
 fn on_system(call: &Entry, lent: &mut Case, side: &impl Side) -> String {
     let answer = lent.answer(|n, slices: Slices| match call {
         Entry::Eliminate(call) => side.eliminate(*call, n, slices),
+        Entry::StartBox => side.start_box(n, slices),
         Entry::Sweep(allowed) => side.sweep(n, slices, *allowed),
         other => panic!("{other:?} is no call on a system"),
     });

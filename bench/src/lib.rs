@@ -1,4 +1,4 @@
-//! The outside check: an independent implementation of document 01, the cases
+//! The outside check: an independent implementation of the documents, the cases
 //! to try, and the comparison with the archive.
 
 pub mod archive;

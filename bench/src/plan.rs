@@ -1,7 +1,8 @@
 //! What the command line of `differential` asks for.
 
 pub const USAGE: &str =
-    "usage: differential [pairs=N] [systems=N] [sweeps=N] [texts=N] [programs=N] [seed=N]";
+    "usage: differential [pairs=N] [systems=N] [starts=N] [sweeps=N] [boxes=N] [texts=N] \
+     [programs=N] [seed=N]";
 
 #[derive(Clone, Copy, Debug, PartialEq, Eq)]
 pub struct Plan {
@@ -9,8 +10,12 @@ pub struct Plan {
     pub pairs: u64,
     /// Random systems over both elimination calls.
     pub systems: u64,
+    /// Start boxes, faulty ones first.
+    pub starts: u64,
     /// Random sweep calls.
     pub sweeps: u64,
+    /// Random pairs of boxes to choose from.
+    pub boxes: u64,
     /// Random texts for the report call.
     pub texts: u64,
     /// Texts for the program, edge texts and random ones.
@@ -22,7 +27,9 @@ impl Plan {
     const DEFAULT: Plan = Plan {
         pairs: 5_000_000,
         systems: 1_000_000,
+        starts: 1_000_000,
         sweeps: 2_000_000,
+        boxes: 1_000_000,
         texts: 300_000,
         programs: 2_000,
         seed: 1,
@@ -35,7 +42,9 @@ impl Plan {
             match argument.split_once('=')? {
                 ("pairs", number) => plan.pairs = number.parse().ok()?,
                 ("systems", number) => plan.systems = number.parse().ok()?,
+                ("starts", number) => plan.starts = number.parse().ok()?,
                 ("sweeps", number) => plan.sweeps = number.parse().ok()?,
+                ("boxes", number) => plan.boxes = number.parse().ok()?,
                 ("texts", number) => plan.texts = number.parse().ok()?,
                 ("programs", number) => plan.programs = number.parse().ok()?,
                 ("seed", number) => plan.seed = number.parse().ok()?,
@@ -56,14 +65,15 @@ mod tests {
 
     #[test]
     fn arguments_come_in_any_sequence() {
-        let plan = read("pairs=2 systems=3 sweeps=5 texts=6 programs=7 seed=4");
+        let plan = read("pairs=2 systems=3 sweeps=5 texts=6 programs=7 seed=4 starts=8 boxes=9");
         assert_eq!(
-            read("seed=4 programs=7 texts=6 sweeps=5 systems=3 pairs=2"),
+            read("boxes=9 starts=8 seed=4 programs=7 texts=6 sweeps=5 systems=3 pairs=2"),
             plan
         );
         let plan = plan.unwrap();
         assert_eq!([plan.pairs, plan.systems, plan.sweeps], [2, 3, 5]);
         assert_eq!([plan.texts, plan.programs as u64, plan.seed], [6, 7, 4]);
+        assert_eq!([plan.starts, plan.boxes], [8, 9]);
         assert_eq!(read(""), Some(Plan::DEFAULT));
     }
 

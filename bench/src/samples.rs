@@ -108,8 +108,14 @@ mod tests {
         fn eliminate(&self, _: Call, _: usize, _: Slices) -> Outcome {
             Outcome::DONE
         }
+        fn start_box(&self, _: usize, _: Slices) -> Outcome {
+            Outcome::DONE
+        }
         fn sweep(&self, _: usize, _: Slices, _: usize) -> Outcome {
             Outcome::DONE
+        }
+        fn narrower<'a>(&self, _: usize, _: &'a [i64], _: &'a [i64]) -> &'a [i64] {
+            &[]
         }
         fn report(&self, _: &mut [u8], _: &mut [u8]) -> Outcome {
             Outcome::DONE

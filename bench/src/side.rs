@@ -1,4 +1,4 @@
-//! The calls of document 01, as one of the sides does them.
+//! The calls, as one of the sides does them.
 
 use crate::case::Slices;
 use crate::reference::{self, Call, Interval, Operation, Outcome, Step};
@@ -11,7 +11,10 @@ pub type Flat = (u64, u64, i64, i64);
 pub trait Side {
     fn step(&self, operation: Operation, a: Interval, b: Interval) -> Flat;
     fn eliminate(&self, call: Call, n: usize, lent: Slices) -> Outcome;
+    fn start_box(&self, n: usize, lent: Slices) -> Outcome;
     fn sweep(&self, n: usize, lent: Slices, allowed: usize) -> Outcome;
+    /// One of the two itself, or an empty part where the first begins.
+    fn narrower<'a>(&self, n: usize, first: &'a [i64], second: &'a [i64]) -> &'a [i64];
     fn report(&self, text: &mut [u8], out: &mut [u8]) -> Outcome;
 }
 
@@ -34,8 +37,16 @@ impl Side for Reference {
         }
     }
 
+    fn start_box(&self, n: usize, lent: Slices) -> Outcome {
+        reference::start_box(n, lent.matrix, lent.right_side, lent.bounds)
+    }
+
     fn sweep(&self, n: usize, lent: Slices, allowed: usize) -> Outcome {
         reference::sweep(n, lent.matrix, lent.right_side, lent.bounds, allowed)
+    }
+
+    fn narrower<'a>(&self, n: usize, first: &'a [i64], second: &'a [i64]) -> &'a [i64] {
+        reference::narrower(n, first, second)
     }
 
     fn report(&self, text: &mut [u8], out: &mut [u8]) -> Outcome {

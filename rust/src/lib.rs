@@ -30,15 +30,17 @@
 
 #![deny(missing_docs)]
 
+mod boxes;
 mod outcome;
 pub mod raw;
 mod steps;
 mod systems;
 mod texts;
 
+pub use boxes::narrower;
 pub use outcome::{Outcome, Refusal};
 pub use steps::{difference, product, quotient, sum, Interval, Step};
-pub use systems::{eliminate, eliminate_balance, sweep, Swept};
+pub use systems::{eliminate, eliminate_balance, start_box, sweep, Swept};
 pub use texts::{report, Written};
 
 /// One whole, or one tonne, in units.

@@ -49,13 +49,17 @@ pub enum Refusal {
     Allowed,
     /// In this step no row can serve: each from it on contains 0 in its column.
     ContainsZero(usize),
-    /// A result of this row, by its place after the swaps so far, is out of the range.
+    /// A result of this row, by its place after the swaps so far, is out of the range;
+    /// 0 for a start box.
     OutOfRange(usize),
     /// The start box holds no solution, as was found at this vat.
     Empty(usize),
     /// The text is not as described: its first faulty line, or 0 if it is too
     /// long.
     Text(usize),
+    /// For a start box: neither are all row sums of the shares' magnitudes below one
+    /// nor all column sums.
+    Sums,
 }
 
 impl From<KifwalebOutcome> for Outcome {
@@ -74,6 +78,7 @@ impl From<KifwalebOutcome> for Outcome {
             6 => Refusal::OutOfRange(place),
             7 => Refusal::Empty(place),
             8 => Refusal::Text(place),
+            10 => Refusal::Sums,
             number => panic!("the archive returned {number}, place {place}"),
         })
     }

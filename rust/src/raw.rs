@@ -29,7 +29,7 @@ pub struct KifwalebStep {
     pub hi: i64,
 }
 
-/// What any other call answers.
+/// What any other call but `kifwaleb_narrower` answers.
 #[repr(C)]
 #[derive(Clone, Copy, Debug, PartialEq, Eq)]
 pub struct KifwalebOutcome {
@@ -37,7 +37,8 @@ pub struct KifwalebOutcome {
     pub number: u64,
     /// The place that goes with the number.
     pub place: u64,
-    /// Whole sweeps, or the bytes of a sheet; 0 for an elimination.
+    /// Whole sweeps, or the bytes of a sheet; 0 for an elimination and for a
+    /// start box.
     pub count: u64,
 }
 
@@ -76,6 +77,17 @@ extern "C" {
         bounds_len: usize,
     ) -> KifwalebOutcome;
 
+    /// As [`start_box`](crate::start_box).
+    pub fn kifwaleb_start_box(
+        n: usize,
+        b_matrix: *const i64,
+        b_matrix_len: usize,
+        b: *const i64,
+        b_len: usize,
+        bounds: *mut i64,
+        bounds_len: usize,
+    ) -> KifwalebOutcome;
+
     /// As [`sweep`](crate::sweep).
     pub fn kifwaleb_sweep(
         n: usize,
@@ -87,6 +99,16 @@ extern "C" {
         bounds_len: usize,
         allowed: usize,
     ) -> KifwalebOutcome;
+
+    /// As [`narrower`](crate::narrower), by a number: 1 for the first, 2 for the
+    /// second, 0 for neither. It is no number of the table of outcomes.
+    pub fn kifwaleb_narrower(
+        n: usize,
+        first: *const i64,
+        first_len: usize,
+        second: *const i64,
+        second_len: usize,
+    ) -> u64;
 
     /// As [`report`](crate::report).
     pub fn kifwaleb_report(

@@ -1,4 +1,4 @@
-//! The two eliminations and the sweep call.
+//! The two eliminations, the start box and the sweep call.
 
 use crate::raw;
 use crate::Outcome;
@@ -69,6 +69,26 @@ pub fn eliminate(n: usize, a: &[i64], f: &[i64], bounds: &mut [i64]) -> Outcome 
 /// ```
 pub fn eliminate_balance(n: usize, b_matrix: &[i64], b: &[i64], bounds: &mut [i64]) -> Outcome {
     lend!(kifwaleb_eliminate_balance, n, b_matrix, b, bounds).into()
+}
+
+/// Writes bounds on each component of the solutions of x = B·x + b, lent as for
+/// [`eliminate_balance`], but without elimination: wide ones, from which [`sweep`] can
+/// start where an elimination is refused. b is widened by the same reach at every end.
+///
+/// The shares' magnitudes must come to less than one in every row or in every column,
+/// else the call is refused with [`Refusal::Sums`](crate::Refusal::Sums).
+///
+/// ```
+/// use kifwaleb::{start_box, Outcome, Refusal};
+/// let (share, delivery) = ([100_000, 200_000], [9_000_000, 9_000_000]);
+/// let mut bounds = [0; 2];
+/// assert_eq!(start_box(1, &share, &delivery, &mut bounds), Outcome::Done);
+/// assert_eq!(bounds, [6_750_000, 11_250_000]);
+/// let refused = start_box(1, &[0, 1_000_000], &delivery, &mut bounds);
+/// assert_eq!(refused, Outcome::Refused(Refusal::Sums));
+/// ```
+pub fn start_box(n: usize, b_matrix: &[i64], b: &[i64], bounds: &mut [i64]) -> Outcome {
+    lend!(kifwaleb_start_box, n, b_matrix, b, bounds).into()
 }
 
 /// Tightens bounds on the solutions of x = B·x + b, in place, by at most

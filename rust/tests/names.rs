@@ -2,7 +2,8 @@
 //! that was lent.
 
 use kifwaleb::{difference, product, quotient, sum, Interval, Step, HIGHEST};
-use kifwaleb::{eliminate, eliminate_balance, report, sweep, Outcome, Refusal, SHEET_LENGTH};
+use kifwaleb::{eliminate, eliminate_balance, narrower, report, start_box, sweep};
+use kifwaleb::{raw, Outcome, Refusal, SHEET_LENGTH};
 
 const ONE: [i64; 2] = [1_000_000; 2];
 
@@ -43,6 +44,43 @@ fn each_refusal_of_an_elimination_has_its_name() {
     assert_refused(Refusal::Length(3), |bounds| {
         eliminate_balance(1, &ONE, &ONE, &mut bounds[..1])
     });
+}
+
+#[test]
+fn each_refusal_of_a_start_box_has_its_name() {
+    let started = |n, share: &[i64], delivery: &[i64], refusal| {
+        assert_refused(refusal, |bounds| start_box(n, share, delivery, bounds));
+    };
+    started(0, &[0, 0], &ONE, Refusal::Size);
+    started(1, &[0], &ONE, Refusal::Length(1));
+    started(1, &[0, 0], &[0], Refusal::Length(2));
+    started(1, &[1, 0], &ONE, Refusal::Ends(0));
+    started(1, &ONE, &ONE, Refusal::Sums);
+    started(1, &[-999_999, 0], &ONE, Refusal::OutOfRange(0));
+    assert_refused(Refusal::Length(3), |bounds| {
+        start_box(1, &[0, 0], &ONE, &mut bounds[..1])
+    });
+}
+
+#[test]
+fn the_narrower_box_is_handed_back_itself() {
+    let boxes = [[0, 5], [7, 11], [4, 8], [1, 0]];
+    let chosen = |first: usize, second: usize| {
+        let chosen = narrower(1, &boxes[first], &boxes[second]);
+        boxes
+            .iter()
+            .position(|numbers| std::ptr::eq(chosen, numbers))
+    };
+    assert_eq!(chosen(0, 1), Some(1));
+    assert_eq!([chosen(1, 2), chosen(2, 1)], [Some(1), Some(2)]);
+    assert_eq!([chosen(0, 3), chosen(3, 0)], [Some(0); 2]);
+    let neither = narrower(1, &boxes[3], &boxes[3]);
+    assert!(std::ptr::eq(neither, &boxes[3][..0]));
+    assert!(narrower(33, &boxes[0], &boxes[1]).is_empty());
+    // The same box twice is told from its number alone.
+    let (numbers, length) = (boxes[0].as_ptr(), boxes[0].len());
+    let number = unsafe { raw::kifwaleb_narrower(1, numbers, length, numbers, length) };
+    assert_eq!(number, 1);
 }
 
 #[test]

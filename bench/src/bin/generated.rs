@@ -5,12 +5,13 @@
 
 use kifwaleb_bench::case::Case;
 use kifwaleb_bench::case_file::{entries, lines, written, Entry, READ_LENGTHS};
+use kifwaleb_bench::comparison::{Boxes, StartBox};
 use kifwaleb_bench::generator::{
-    edge_cases, edge_lists, edge_pairs, edge_texts, random_cases_up_to, random_lists_up_to,
-    random_pairs, random_texts_up_to, Random,
+    boxes_up_to, edge_cases, edge_lists, edge_pairs, edge_texts, random_cases_up_to,
+    random_lists_up_to, random_pairs, random_texts_up_to, starts_up_to, Random,
 };
 use kifwaleb_bench::reference::{read_text, Call, Interval, Operation, MOST_BYTES, MOST_EQUATIONS};
-use kifwaleb_bench::side::Reference;
+use kifwaleb_bench::side::{Reference, Side};
 use kifwaleb_bench::sweep_list::SweepList;
 use kifwaleb_bench::text_case::TextCase;
 use std::collections::HashMap;
@@ -36,7 +37,9 @@ fn main() -> io::Result<()> {
     for call in Call::ALL {
         all.extend(eliminations(call));
     }
+    all.extend(starts());
     all.extend(sweeps());
+    all.extend(choices());
     all.extend(texts());
     let file = written(&all);
     assert!(
@@ -85,6 +88,10 @@ fn kind(entries: &[Entry]) -> String {
             let sheet = lines[2].trim_end_matches('|').rsplit(['|', ':']);
             sheet.take(1).collect()
         }
+        Entry::Narrower(Boxes { n, first, second }) => {
+            let chosen = Reference.narrower(*n, first, second);
+            format!("{n} {} {} {}", first.len(), second.len(), chosen == first)
+        }
         first => {
             let ends = lines.iter().map(|line| ending(line));
             format!("{} {}", ends.collect::<String>(), size(first))
@@ -115,7 +122,12 @@ fn steps(operation: Operation) -> Vec<Entry> {
     let edge = edge_pairs().step_by(17).take(RANDOM * 8).step_by(2);
     let pairs = edge.chain(random_pairs(operation, SEED).take(RANDOM));
     let step = |(a, b): (Interval, Interval)| vec![Entry::Step(operation, a, b)];
-    chosen(pairs.map(step).collect(), 6, 28_000)
+    // Sums and differences are exact: fewer of them tell as much.
+    let bytes = match operation {
+        Operation::Sum | Operation::Difference => 14_000,
+        Operation::Product | Operation::Quotient => 28_000,
+    };
+    chosen(pairs.map(step).collect(), 6, bytes)
 }
 
 fn has_few_vats(lent: &Case) -> bool {
@@ -137,6 +149,23 @@ fn eliminations(call: Call) -> Vec<Entry> {
     let large = edge_cases(call).filter(has_most_vats).take(1);
     all.extend(large.flat_map(entries));
     all
+}
+
+fn starts() -> Vec<Entry> {
+    let lists = starts_up_to(FEW_VATS, SEED).take(2 * RANDOM);
+    let cases = lists.map(|StartBox(mut list)| {
+        list.lent.bounds.fill(-7);
+        list.lent
+    });
+    let cases = cases.filter(has_few_vats);
+    let entries = |lent| vec![Entry::System(lent), Entry::StartBox];
+    chosen(cases.map(entries).collect(), 40, 20_000)
+}
+
+fn choices() -> Vec<Entry> {
+    let boxes = boxes_up_to(FEW_VATS, SEED).take(RANDOM);
+    let entries = boxes.map(|boxes| vec![Entry::Narrower(boxes)]);
+    chosen(entries.collect(), 3, 9_000)
 }
 
 fn sweeps() -> Vec<Entry> {

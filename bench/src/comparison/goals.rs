@@ -2,6 +2,10 @@
 
 use super::tally::Goal;
 use crate::reference::{Call, Flaw, Operation, Phase, Stop, TextPart, MOST_EQUATIONS};
+use std::ops::RangeInclusive;
+
+/// Sums on either side of the test whether they are below one.
+pub const ABOUT_ONE: RangeInclusive<usize> = 999_999..=1_000_001;
 
 /// Only a quotient has a divisor.
 pub fn of_step(operation: Operation) -> Vec<Goal> {
@@ -53,6 +57,7 @@ fn refused_systems(call: Call) -> Vec<Goal> {
             Phase::Forming | Phase::Quotient => 1..=MOST_EQUATIONS,
             Phase::Factor | Phase::Entry | Phase::RightSide => 2..=MOST_EQUATIONS,
             Phase::Numerator => 1..=MOST_EQUATIONS - 1,
+            Phase::Dividend | Phase::End => continue,
         };
         goals.push(Goal::at(out_of_range(phase), rows));
     }
@@ -68,6 +73,8 @@ fn out_of_range(phase: Phase) -> &'static str {
         Phase::RightSide => "6 (right side) in row",
         Phase::Numerator => "6 (numerator) in row",
         Phase::Quotient => "6 (quotient) in row",
+        Phase::Dividend => "6 (dividend)",
+        Phase::End => "6 (end)",
     }
 }
 
@@ -81,7 +88,41 @@ pub fn stopped(n: usize, stop: Stop) -> (&'static str, usize) {
         Stop::Ends { .. } => ("3 in the box", 0),
         Stop::Pivot { k } => ("5 at pivot", k),
         Stop::OutOfRange { phase, row } => (out_of_range(phase), row),
+        Stop::Sums => ("10 for n", n),
     }
+}
+
+/// One vat has its row for a column.
+pub fn of_start_box() -> Vec<Goal> {
+    let mut goals = vec![
+        Goal::at("0 by rows for n", 1..=MOST_EQUATIONS),
+        Goal::at("0 by columns for n", 2..=MOST_EQUATIONS),
+        Goal::at("10 for n", 1..=MOST_EQUATIONS),
+        Goal::at("a greatest row sum of", ABOUT_ONE),
+        Goal::at("a greatest column sum, a row failing, of", ABOUT_ONE),
+        Goal::at("0 with an end at the lower or upper limit", 0..=1),
+        Goal::once("0 by rows with a known solution"),
+        Goal::once("0 by columns with a known solution"),
+    ];
+    goals.extend(sizes_and_lengths());
+    goals.extend(faulty_ends());
+    let phases = [Phase::Dividend, Phase::Quotient, Phase::End];
+    goals.extend(phases.map(|phase| Goal::once(out_of_range(phase))));
+    goals
+}
+
+pub fn of_narrower() -> Vec<Goal> {
+    let sized = ["first for n", "second for n", "first by a tie for n"];
+    let mut goals = sized
+        .map(|name| Goal::at(name, 1..=MOST_EQUATIONS))
+        .to_vec();
+    goals.extend([
+        Goal::at("the first alone fails test", 2..=3),
+        Goal::at("the second alone fails test", 2..=3),
+        Goal::at("both fail, the first test", 1..=3),
+        Goal::at("unequal: second by a unit, tie, first by a unit", 0..=2),
+    ]);
+    goals
 }
 
 pub fn of_sweep() -> Vec<Goal> {

@@ -1,7 +1,9 @@
 //! Comparing answers with the reference's, and counting what was reached.
 
+mod choices;
 pub mod goals;
 mod lent;
+mod starts;
 mod steps;
 mod sweeps;
 mod systems;
@@ -10,6 +12,8 @@ mod tally;
 mod tests;
 mod texts;
 
+pub use choices::Boxes;
+pub use starts::StartBox;
 pub use steps::Pair;
 pub use systems::Elimination;
 pub use tally::{Goal, Tally};

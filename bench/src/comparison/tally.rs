@@ -16,7 +16,7 @@ pub struct Tally {
     /// By goal and place.
     reached: Vec<Vec<u64>>,
     /// By the number that the call returned, or that its sheet says.
-    numbers: [u64; 10],
+    numbers: [u64; 11],
 }
 
 impl Goal {
@@ -39,7 +39,7 @@ impl Tally {
         Tally {
             reached: goals.iter().map(places).collect(),
             goals,
-            numbers: [0; 10],
+            numbers: [0; 11],
         }
     }
 

@@ -96,8 +96,20 @@ impl Side for Changed {
         self.numbers(Reference.eliminate(call, n, lent.again()), lent)
     }
 
+    fn start_box(&self, n: usize, mut lent: Slices) -> Outcome {
+        self.numbers(Reference.start_box(n, lent.again()), lent)
+    }
+
     fn sweep(&self, n: usize, mut lent: Slices, allowed: usize) -> Outcome {
         self.numbers(Reference.sweep(n, lent.again(), allowed), lent)
+    }
+
+    /// The empty part behind the first, if it is to be another than the right one.
+    fn narrower<'a>(&self, n: usize, first: &'a [i64], second: &'a [i64]) -> &'a [i64] {
+        match self.is_now() {
+            true => &first[first.len()..],
+            false => Reference.narrower(n, first, second),
+        }
     }
 
     fn report(&self, text: &mut [u8], out: &mut [u8]) -> Outcome {
@@ -160,6 +172,14 @@ fn every_number_of_an_answer_is_compared() {
     });
     assert_compared(&goals::of_elimination(call), &both, 3);
     assert_compared(&goals::of_sweep(), &[list(&[2, 0, 100])], 3);
+    let starts = [list(&[]), SweepList::new(Case::new(&identity(2)), &[])].map(StartBox);
+    assert_compared(&goals::of_start_box(), &starts, 3);
+    let boxes = [[0, 5], [7, 7], [1, 0]].map(|ends| Boxes {
+        n: 1,
+        first: ends.to_vec(),
+        second: vec![2, -2],
+    });
+    assert_compared(&goals::of_narrower(), &boxes, 0);
     let texts = [INPUT, b"a\n1:0\n0:0\n"].map(|text| TextCase::new(text.to_vec()));
     assert_compared(&goals::of_report(), &texts, 2);
 }
@@ -194,9 +214,12 @@ fn a_lost_solution_is_reported() {
         numerators: vec![99],
         denominator: 1,
     });
-    let found = compare(goals::of_sweep(), [wrong].into_iter(), 9, &Reference);
-    let text = found.unwrap_err();
+    let lists = [wrong.clone()].into_iter();
+    let text = compare(goals::of_sweep(), lists, 9, &Reference).unwrap_err();
     assert!(text.contains("is lost"), "{text}");
+    let start = [StartBox(wrong)].into_iter();
+    let text = compare(goals::of_start_box(), start, 9, &Reference).unwrap_err();
+    assert!(text.contains("does not lie in the box"), "{text}");
 }
 
 #[test]

@@ -1,14 +1,18 @@
 //! The cases to try: all cases of edge values, and random cases that are
 //! steered to where a wrong answer would show.
 
+mod choices;
 mod pairs;
 mod random;
+mod starts;
 mod sweeps;
 mod systems;
 mod texts;
 
+pub use choices::boxes_up_to;
 pub use pairs::{edge_pairs, random_pairs};
 pub use random::Random;
+pub use starts::starts_up_to;
 pub use sweeps::{edge_lists, random_lists, random_lists_up_to, settling};
 pub use systems::{edge_cases, random_cases, random_cases_up_to};
 pub use texts::{edge_texts, long_named_text, random_texts, random_texts_up_to, FAULTY_SPELLINGS};

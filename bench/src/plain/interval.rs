@@ -132,7 +132,7 @@ fn floor(numerator: i64, denominator: i64) -> i64 {
 }
 
 #[inline]
-fn ceiling(numerator: i64, denominator: i64) -> i64 {
+pub fn ceiling(numerator: i64, denominator: i64) -> i64 {
     let quotient = numerator / denominator;
     let rest = numerator % denominator;
     if rest != 0 && (rest < 0) == (denominator < 0) {

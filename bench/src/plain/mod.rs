@@ -1,4 +1,4 @@
-//! The calls of document 01 in everyday Rust, for comparing speed: 64-bit
+//! The calls in everyday Rust, for comparing speed: 64-bit
 //! numbers, four products, floor and ceiling, safe slices. Unlike the
 //! reference it keeps no account of what it did, only of the outcome.
 
@@ -8,8 +8,10 @@ mod lent;
 mod report;
 #[cfg(test)]
 mod sameness;
+mod start_box;
 mod sweep;
 
 pub use elimination::eliminate_balance;
 pub use report::report;
+pub use start_box::start_box;
 pub use sweep::sweep;

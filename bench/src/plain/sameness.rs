@@ -1,12 +1,12 @@
 //! On the generator's cases every answer is the reference's.
 
-use super::{eliminate_balance, report, sweep};
+use super::{eliminate_balance, report, start_box, sweep};
 use crate::case::Slices;
 use crate::comparison::{compare, goals, Elimination, Goal, Trial};
 use crate::generator::{
-    edge_cases, edge_lists, edge_texts, random_cases, random_lists, random_texts,
+    edge_cases, edge_lists, edge_texts, random_cases, random_lists, random_texts, starts_up_to,
 };
-use crate::reference::{Call, Interval, Operation, Outcome};
+use crate::reference::{Call, Interval, Operation, Outcome, MOST_EQUATIONS};
 use crate::side::{Flat, Side};
 
 struct Plain;
@@ -21,8 +21,16 @@ impl Side for Plain {
         eliminate_balance(n, lent.matrix, lent.right_side, lent.bounds)
     }
 
+    fn start_box(&self, n: usize, lent: Slices) -> Outcome {
+        start_box(n, lent.matrix, lent.right_side, lent.bounds)
+    }
+
     fn sweep(&self, n: usize, lent: Slices, allowed: usize) -> Outcome {
         sweep(n, lent.matrix, lent.right_side, lent.bounds, allowed)
+    }
+
+    fn narrower<'a>(&self, _: usize, _: &'a [i64], _: &'a [i64]) -> &'a [i64] {
+        unimplemented!("no task chooses a box")
     }
 
     fn report(&self, text: &mut [u8], out: &mut [u8]) -> Outcome {
@@ -49,6 +57,12 @@ fn eliminations_are_the_same() {
 fn sweeps_are_the_same() {
     let lists = edge_lists().chain(random_lists(31));
     assert_same(goals::of_sweep(), lists, 600_000);
+}
+
+#[test]
+fn start_boxes_are_the_same() {
+    let starts = starts_up_to(MOST_EQUATIONS, 31);
+    assert_same(goals::of_start_box(), starts, 200_000);
 }
 
 #[test]

@@ -110,7 +110,7 @@ pub fn rounded_quotient(a: Interval, b: Interval) -> WideInterval {
     }
 }
 
-fn in_range(value: i128) -> bool {
+pub(super) fn in_range(value: i128) -> bool {
     let limit = i128::from(LIMIT);
     -limit <= value && value <= limit
 }
@@ -141,7 +141,7 @@ fn floor(numerator: i128, denominator: i128) -> i128 {
 }
 
 /// Rounds towards plus infinity for every sign.
-fn ceiling(numerator: i128, denominator: i128) -> i128 {
+pub(super) fn ceiling(numerator: i128, denominator: i128) -> i128 {
     -floor(-numerator, denominator)
 }
 

@@ -1,12 +1,15 @@
-//! Document 01 a second time, written from its words alone.
+//! Document 01, and what document 02 adds to it, a second time, written from
+//! their words alone.
 
 mod elimination;
 #[cfg(test)]
 mod enclosure;
 mod interval;
+mod narrower;
 mod numbers;
 mod outcome;
 mod sheet;
+mod start_box;
 mod steps;
 mod sweep;
 mod system;
@@ -16,9 +19,11 @@ mod text_examples;
 
 pub use elimination::{calculate, eliminate, eliminate_balance, numerator, trace, Call, Trace};
 pub use interval::{rounded_product, rounded_quotient, Interval, WideInterval, LIMIT, SCALE};
+pub use narrower::{narrower, width};
 pub use numbers::*;
 pub use outcome::{Outcome, Phase, Slice, Stop};
 pub use sheet::{print, report, report_end, sheet, ReportEnd, SHEET_LENGTH, SHEET_SWEEPS};
+pub use start_box::{start_box, started, sums, Sums};
 pub use steps::{difference, product, quotient, step, sum, Operation, Step};
 pub use sweep::{right_hand, sweep, sweep_end, sweeps, SweepEnd, MOST_SWEEPS};
 pub use system::{intervals, laid_flat, System, MOST_EQUATIONS};

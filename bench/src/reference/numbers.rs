@@ -1,4 +1,4 @@
-//! The numbers that document 01 returns.
+//! The numbers of document 01's table, which document 02 goes on with.
 
 /// Done, or settled; the box is written.
 pub const DONE: u64 = 0;
@@ -20,3 +20,5 @@ pub const EMPTY: u64 = 7;
 pub const FAULTY_TEXT: u64 = 8;
 /// The last allowed sweep still changed an end; the box is written.
 pub const SPENT: u64 = 9;
+/// Neither are all row sums of magnitudes below one nor all column sums.
+pub const FAULTY_SUMS: u64 = 10;

@@ -1,7 +1,7 @@
 //! What a call over a system returns, and why it stopped.
 
 use super::numbers::{
-    DONE, FAULTY_ENDS, FAULTY_LENGTH, FAULTY_SIZE, RESULT_OUT_OF_RANGE, ZERO_DIVISOR,
+    DONE, FAULTY_ENDS, FAULTY_LENGTH, FAULTY_SIZE, FAULTY_SUMS, RESULT_OUT_OF_RANGE, ZERO_DIVISOR,
 };
 
 use std::fmt;
@@ -22,7 +22,7 @@ pub enum Slice {
     Box,
 }
 
-/// The results of an elimination that must lie in the range.
+/// The results of an elimination, or of a start box, that must lie in the range.
 #[derive(Clone, Copy, Debug, PartialEq, Eq, PartialOrd, Ord)]
 pub enum Phase {
     /// An entry of I − B.
@@ -33,8 +33,12 @@ pub enum Phase {
     /// A changed f(i).
     RightSide,
     Numerator,
-    /// An x(i).
+    /// An x(i), or a reach.
     Quotient,
+    /// What is divided to get a reach.
+    Dividend,
+    /// Of a start box.
+    End,
 }
 
 /// Why a call ended without a box. The outcome tells less: it does not name
@@ -52,11 +56,13 @@ pub enum Stop {
     Pivot {
         k: usize,
     },
-    /// The row is counted from 1.
+    /// The row is counted from 1; 0 in a start box.
     OutOfRange {
         phase: Phase,
         row: usize,
     },
+    /// Neither all row sums nor all column sums are below one.
+    Sums,
 }
 
 impl Outcome {
@@ -99,6 +105,7 @@ impl Slice {
 }
 
 impl Phase {
+    /// Of an elimination.
     pub const ALL: [Phase; 6] = [
         Phase::Forming,
         Phase::Factor,
@@ -117,6 +124,7 @@ impl From<Stop> for Outcome {
             Stop::Ends { position } => Outcome::new(FAULTY_ENDS, position as u64),
             Stop::Pivot { k } => Outcome::new(ZERO_DIVISOR, k as u64),
             Stop::OutOfRange { row, .. } => Outcome::new(RESULT_OUT_OF_RANGE, row as u64),
+            Stop::Sums => Outcome::new(FAULTY_SUMS, 0),
         }
     }
 }

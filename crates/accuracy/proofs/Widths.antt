@@ -14,7 +14,6 @@ use Rattle.interval.specs.Interval.{width}
 use Rattle.fraction.specs.Meaning.{Contains}
 use Rattle.inputs.specs.Place.{at, widths}
 use Rattle.inputs.specs.System.{System}
-use Rattle.outcome.specs.Run.{done}
 use Rattle.sweep.specs.Pass.{differs, differ}
 use Rattle.sweep.specs.Call.{Log, stopped, settled, spent, swept}
 use Rattle.accuracy.specs.Claim.{Narrowed}

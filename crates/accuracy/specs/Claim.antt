@@ -6,7 +6,6 @@ use lib.Dec.{T}
 use lib.IntN.{ℤ, _-ℤ_, _*ℤ_}
 use lib.Signed.{_≤ℤ_}
 use Rattle.outcome.specs.Run.{Returned}
-use Rattle.interval.specs.declared.Interval.{Interval}
 use Rattle.interval.specs.Interval.{width}
 use Rattle.fraction.specs.Fraction.{Fraction, Inside}
 use Rattle.fraction.specs.Meaning.{Contains}

@@ -15,7 +15,7 @@ use Rattle.inputs.specs.declared.Test.{Test}
 use Rattle.inputs.specs.declared.Test.the-variants.{Pass, Fail}
 use Rattle.inputs.specs.Place.{at, cell}
 use Rattle.inputs.specs.Tests.{tested}
-use Rattle.inputs.specs.System.{System, tests}
+use Rattle.inputs.specs.System.{tests}
 use Rattle.inputs.proofs.Early.{Early, early-number, early-tests}
 use Rattle.rows.specs.Sum.{singly}
 use Rattle.forward.specs.Pivot.{lowestRow, swapped}
@@ -25,7 +25,7 @@ use Rattle.forward.proofs.Run.{stepped}
 use Rattle.forward.proofs.Pivot.{refused-five, five}
 use Rattle.elimination.specs.Back.{back}
 use Rattle.elimination.specs.Call.{copied, box, noneTaken, solved, runA, runB}
-use Rattle.elimination.specs.Claim.{NoRow, NoRowOfB, Five, FiveExactly}
+use Rattle.elimination.specs.Claim.{NoRow, Five, FiveExactly}
 use Rattle.elimination.proofs.Refused.{refuses-rows, refuses-back, refuses-formedRows}
 
 -- ---- no part but the search says 5

@@ -1,5 +1,5 @@
 -- Without a 5, the calculation that looks for a row is the one that does not: each pivot serves where it stands.
-use mathlib.Core.Path.{_≡_, refl, sym, ap, _∙_}
+use mathlib.Core.Path.{_≡_, refl, ap}
 use mathlib.Core.Logic.{_≢_}
 use mathlib.Core.Bool.{Bool, true, false, cond}
 use mathlib.Core.List.{List}
@@ -7,7 +7,6 @@ use Prim.Native.Nat.{ℕ, zero, suc, _+_, _-_, _<_}
 use native.Mathlib.Omega.{arith}
 use lib.IntN.{ℤ, pos}
 use lib.ListN.{length, set}
-use Rattle.outcome.specs.declared.Outcome.{Outcome}
 use Rattle.outcome.specs.declared.Outcome.the-variants as outcome
 use Rattle.outcome.specs.Table.{numberAndPlace}
 use Rattle.outcome.specs.Run.{Run, refused, done, andThen, ended, written}
@@ -17,7 +16,7 @@ use Rattle.inputs.specs.declared.Test.{Test}
 use Rattle.inputs.specs.declared.Test.the-variants.{Pass, Fail}
 use Rattle.inputs.specs.Place.{at, cell}
 use Rattle.inputs.specs.Tests.{tested}
-use Rattle.inputs.specs.System.{System, tests}
+use Rattle.inputs.specs.System.{tests}
 use Rattle.rows.specs.Sum.{RowSum, singly}
 use Rattle.forward.specs.Pivot.{lowestRow, inPlace, swapped}
 use Rattle.forward.specs.Forward.{Table, table, taking, rows, pivots, forward}

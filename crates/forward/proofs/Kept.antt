@@ -3,21 +3,21 @@ use mathlib.Core.Path.{_≡_, refl, sym, ap, _∙_, subst}
 use mathlib.Core.Bool.{false}
 use mathlib.Core.Logic.{_≢_}
 use mathlib.Core.List.{List}
-use Prim.Native.Nat.{ℕ, zero, suc, _+_, _-_, _*_, _≤_, _<_}
+use Prim.Native.Nat.{ℕ, zero, suc, _+_, _*_, _≤_, _<_}
 use native.Mathlib.Decide.{ℕ-discrete}
 use native.Mathlib.Omega.{arith}
-use lib.IntN.{ℤ, pos}
-use lib.ListN.{length, set}
+use lib.IntN.{ℤ}
+use lib.ListN.{length}
 use Rattle.interval.specs.declared.Interval.{Interval}
 use Rattle.interval.specs.Interval.{containsZero}
 use Rattle.inputs.specs.Place.{at, put, cell}
-use Rattle.inputs.proofs.Place.{length-put, at-put-other, cell-before}
+use Rattle.inputs.proofs.Place.{length-put, at-put-other}
 use Rattle.inputs.proofs.Tests.{rows-apart}
 use Rattle.outcome.specs.Run.{done}
 use Rattle.outcome.proofs.Run.{done-same, joined}
 use Rattle.forward.specs.Run.{rhs}
 use Rattle.forward.specs.Pivot.{lowestRow, swapped}
-use Rattle.forward.specs.Forward.{Table, table, columns, rightSide, rows, pivots, forward}
+use Rattle.forward.specs.Forward.{Table, columns, rightSide, rows, pivots, forward}
 use Rattle.forward.specs.Code.{Pivots}
 use Rattle.forward.proofs.Run.{ranged, Stepped, stepped}
 use Rattle.forward.proofs.Pivot.{Serves, serves}

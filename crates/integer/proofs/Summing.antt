@@ -1,5 +1,5 @@
 -- One turn of a loop that adds up terms on an `i64`: none of them is negative, none is above a limit, and there are few.
-use mathlib.Core.Path.{_≡_, ap, _∙_}
+use mathlib.Core.Path.{_≡_, ap}
 use Prim.Native.Nat.{ℕ, _+_, _*_, _≤_, _<_}
 use native.Mathlib.Omega.{arith}
 use native.Mathlib.Nat.{mul-le-mul}

@@ -4,7 +4,7 @@ use mathlib.Core.List.{List, [], _∷_}
 use Prim.Native.Nat.{ℕ, _*_}
 use lib.IntN.{ℤ, pos, negℤ}
 use lib.ListN.{replicate}
-use Rattle.outcome.specs.Run.{Run, done, andThen, Returned, ended, written}
+use Rattle.outcome.specs.Run.{done, andThen, Returned, ended, written}
 use Rattle.interval.specs.declared.Interval.{Interval}
 use Rattle.interval.specs.Interval.{ends, point, zero}
 use Rattle.interval.specs.Answer.{Answer, sumAnswer, productAnswer, quotientAnswer}

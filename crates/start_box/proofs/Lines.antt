@@ -1,14 +1,13 @@
 -- The lines of a matrix that the code goes through are its rows and its columns.
-use mathlib.Core.Path.{_≡_, ap}
+use mathlib.Core.Path.{_≡_}
 use mathlib.Core.List.{List}
 use Prim.Native.Nat.{ℕ, _+_, _*_, _≤_, _<_}
 use native.Mathlib.Omega.{arith}
-use native.Mathlib.Nat.{mul-one}
 use lib.IntN.{ℤ}
 use lib.ListN.{length}
 use Rattle.integer.specs.Total.{total}
 use Rattle.integer.proofs.Summing.{Term, total-term-of}
-use Rattle.inputs.specs.Place.{at, cell}
+use Rattle.inputs.specs.Place.{at}
 use Rattle.inputs.specs.System.{system}
 use Rattle.inputs.proofs.Tests.{square}
 use Rattle.inputs.proofs.Place.{cell-before}

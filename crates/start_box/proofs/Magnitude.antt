@@ -9,7 +9,7 @@ use mir.Val.{toZ, ofZ}
 use mir.ValLaws.{toZ-ofZ}
 use Rattle.integer.specs.Extremes.{maximum}
 use Rattle.integer.proofs.Linear.{linear, over}
-use Rattle.integer.proofs.Order.{trans, antisym, lt-le}
+use Rattle.integer.proofs.Order.{trans, antisym}
 use Rattle.integer.proofs.Extremes.{max-ind, le-max-left, le-max-right, max-le}
 use Rattle.integer.proofs.Summing.{Term}
 use Rattle.interval.specs.declared.Interval.{Interval}

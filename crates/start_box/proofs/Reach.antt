@@ -1,5 +1,5 @@
 -- The reach: how large its dividends are, one turn of its loops, and that it is in the range.
-use mathlib.Core.Path.{_≡_, refl, sym, _∙_}
+use mathlib.Core.Path.{_≡_, refl, sym}
 use mathlib.Core.Bool.{Bool, true, false, cond}
 use mathlib.Core.List.{List}
 use Prim.Native.Nat.{ℕ, zero, suc, _+_, _-_, _*_, _≤_, _<_}
@@ -14,7 +14,6 @@ use Rattle.outcome.specs.Run.{Run, refused, done, andThen}
 use Rattle.outcome.proofs.Run.{never, done-same, joined}
 use Rattle.integer.specs.Rounding.{ceilDiv}
 use Rattle.integer.specs.Extremes.{maximum}
-use Rattle.integer.specs.Total.{total}
 use Rattle.integer.proofs.Linear.{linear, over}
 use Rattle.integer.proofs.Order.{also, prod, trans, cancel}
 use Rattle.integer.proofs.Rounding.{ceil-iff, ceil-high}
@@ -72,9 +71,6 @@ module _ {n : ℕ} {m r : List ℤ} (w : Ready n m r) (i : ℕ) where
 
 -- ---- a quotient
 module _ (p sum : ℤ) where
-  six : Run ℤ
-  six = refused (outcome.OutOfRange 0)
-
   pub divided-out : within p ≡ false → refused (outcome.OutOfRange 0) ≡ divided p sum
   unfolding divided ranged andThen
   divided-out e = rw e

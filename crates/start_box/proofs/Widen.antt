@@ -9,11 +9,11 @@ use lib.IntN.{ℤ}
 use lib.ListN.{length}
 use Rattle.outcome.specs.declared.Outcome.{Outcome}
 use Rattle.outcome.specs.declared.Outcome.the-variants as outcome
-use Rattle.outcome.specs.Run.{Run, refused, done, andThen, ended}
+use Rattle.outcome.specs.Run.{refused, done, andThen, ended}
 use Rattle.interval.specs.declared.Interval.{Interval}
 use Rattle.interval.specs.Interval.{inRange}
 use Rattle.inputs.specs.Place.{at, put, numbers}
-use Rattle.inputs.specs.System.{System, system}
+use Rattle.inputs.specs.System.{System}
 use Rattle.inputs.specs.Code.{Ended}
 use Rattle.inputs.proofs.Place.{length-put, at-put-same, at-put-other, numbers-is}
 use Rattle.start_box.specs.Reach.{reach}

@@ -5,11 +5,11 @@ mod program;
 use kifwaleb_bench::archive::Archive;
 use kifwaleb_bench::comparison::{compare, goals, Elimination, Goal, Pair, Trial};
 use kifwaleb_bench::generator::{
-    edge_cases, edge_lists, edge_pairs, edge_texts, random_cases, random_lists, random_pairs,
-    random_texts,
+    boxes_up_to, edge_cases, edge_lists, edge_pairs, edge_texts, random_cases, random_lists,
+    random_pairs, random_texts, starts_up_to,
 };
 use kifwaleb_bench::plan::{Plan, USAGE};
-use kifwaleb_bench::reference::{Call, Operation};
+use kifwaleb_bench::reference::{Call, Operation, MOST_EQUATIONS};
 use kifwaleb_bench::samples;
 use std::env;
 use std::process::ExitCode;
@@ -35,6 +35,7 @@ fn all_hold(plan: &Plan) -> bool {
         && Call::ALL
             .into_iter()
             .all(|call| eliminations_hold(plan, call))
+        && starts_and_choices_hold(plan)
         && sweeps_hold(plan)
         && reports_hold(plan)
         && program::holds(plan)
@@ -67,6 +68,19 @@ fn eliminations_hold(plan: &Plan, call: Call) -> bool {
     let calls = plan.systems / Call::ALL.len() as u64;
     holds(call.name(), "edge systems", goals(), edge, u64::MAX)
         && holds(call.name(), "random systems", goals(), random, calls)
+}
+
+fn starts_and_choices_hold(plan: &Plan) -> bool {
+    let starts = starts_up_to(MOST_EQUATIONS, plan.seed);
+    let boxes = boxes_up_to(MOST_EQUATIONS, plan.seed);
+    let [of_starts, of_boxes] = [goals::of_start_box(), goals::of_narrower()];
+    holds(
+        "start_box",
+        "random systems",
+        of_starts,
+        starts,
+        plan.starts,
+    ) && holds("narrower", "random boxes", of_boxes, boxes, plan.boxes)
 }
 
 fn sweeps_hold(plan: &Plan) -> bool {

@@ -20,6 +20,15 @@ pub fn mixed(n: usize) -> Case {
     Case::new(&dense(n, true))
 }
 
+/// As `shares`, but vat 1 gets half of what each vat has: its row comes to more
+/// than one, and each column to less.
+pub fn heavy_row(n: usize) -> Case {
+    let mut case = shares(n);
+    case.matrix[..2 * n].fill(ONE / 2);
+    case.matrix[2 * n..].iter_mut().for_each(|end| *end /= 2);
+    case
+}
+
 fn dense(n: usize, signed: bool) -> System {
     let mut random = Random::new(n as u64);
     let mut balance = System::noughts(n);

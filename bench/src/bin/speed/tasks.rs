@@ -1,6 +1,6 @@
 //! What is done by both sides.
 
-use crate::balances::{longest, mixed, shares, slow_dense, slow_noughts, with_wide_box};
+use crate::balances::{heavy_row, longest, mixed, shares, slow_dense, slow_noughts, with_wide_box};
 use kifwaleb_bench::archive::Archive;
 use kifwaleb_bench::case::{Case, Slices};
 use kifwaleb_bench::generator::long_named_text;
@@ -22,9 +22,12 @@ pub enum Side {
 /// What a task is called, and how it is made for so many vats.
 pub type Kind = (&'static str, fn(usize) -> Task);
 
-pub const KINDS: [Kind; 9] = [
+pub const KINDS: [Kind; 12] = [
     ("eliminate-shares", |n| Task::Eliminate(shares(n))),
     ("eliminate-mixed", |n| Task::Eliminate(mixed(n))),
+    ("start-shares", |n| Task::Start(shares(n))),
+    ("start-mixed", |n| Task::Start(mixed(n))),
+    ("start-columns", |n| Task::Start(heavy_row(n))),
     ("sweep-shares", |n| Task::sweep(with_wide_box(shares(n)), 1)),
     ("sweep-mixed", |n| Task::sweep(with_wide_box(mixed(n)), 1)),
     ("slow-noughts", |n| {
@@ -40,6 +43,7 @@ pub const KINDS: [Kind; 9] = [
 pub enum Task {
     /// From B and b.
     Eliminate(Case),
+    Start(Case),
     /// The box is set back to `start` before each call.
     Sweep {
         lent: Case,
@@ -77,6 +81,7 @@ impl Task {
     fn run_once(&mut self, side: Side) -> Outcome {
         match self {
             Task::Eliminate(lent) => side.eliminate(lent.n, slices(black_box(lent))),
+            Task::Start(lent) => side.start_box(lent.n, slices(black_box(lent))),
             Task::Sweep {
                 lent,
                 start,
@@ -101,14 +106,14 @@ impl Task {
             Task::Sweep { allowed, .. } => assert_eq!((number, count), (SPENT, *allowed as u64)),
             // A text that is only read is refused for its first interval.
             Task::Report { .. } => assert!(number == DONE || number == FAULTY_ENDS),
-            Task::Eliminate(_) => assert_eq!(number, DONE),
+            Task::Eliminate(_) | Task::Start(_) => assert_eq!(number, DONE),
         }
     }
 
     /// The box or the sheet as the last call left it, which is then undone.
     fn left_behind(&mut self) -> Vec<u8> {
         match self {
-            Task::Eliminate(lent) | Task::Sweep { lent, .. } => {
+            Task::Eliminate(lent) | Task::Start(lent) | Task::Sweep { lent, .. } => {
                 let bounds = lent.bounds.iter().flat_map(|end| end.to_le_bytes());
                 let left = bounds.collect();
                 lent.bounds.fill(0);
@@ -140,6 +145,13 @@ impl Side {
         match self {
             Side::Ours => Archive.eliminate(Call::EliminateBalance, n, lent),
             Side::Theirs => plain::eliminate_balance(n, lent.matrix, lent.right_side, lent.bounds),
+        }
+    }
+
+    fn start_box(self, n: usize, lent: Slices) -> Outcome {
+        match self {
+            Side::Ours => Archive.start_box(n, lent),
+            Side::Theirs => plain::start_box(n, lent.matrix, lent.right_side, lent.bounds),
         }
     }
 

@@ -7,7 +7,7 @@ mod faults;
 mod lists;
 mod slow;
 mod small;
-mod solved;
+pub(super) mod solved;
 mod starts;
 
 pub use edges::edge_lists;

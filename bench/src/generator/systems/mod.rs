@@ -1,7 +1,7 @@
 //! Systems for the elimination calls.
 
 pub(super) mod balance;
-mod boxes;
+pub(super) mod boxes;
 mod cases;
 mod edges;
 pub(super) mod faults;

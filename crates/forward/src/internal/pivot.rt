@@ -4,7 +4,7 @@ use inputs::internal::read;
 use inputs::internal::write;
 use interval::internal::contains_zero;
 ghost use mathlib.Core.Path.{_≡_};
-ghost use Prim.Native.Nat.{_+_, _*_, _≤_, _<_};
+ghost use Prim.Native.Nat.{_+_, _*_, _<_};
 ghost use lib.ListN.{length};
 ghost use Rattle.forward.specs.Pivot.{lowestRow, exchanged, swapped};
 ghost use Rattle.forward.specs.Forward.{table};

@@ -5,7 +5,7 @@ use borrow.Author.Needs.{needs}
 use lib.ListN.{length}
 use Rattle.inputs.proofs.Tests.{square}
 use Rattle.forward.specs.Pivot.{swappedColumns}
-use Rattle.forward.proofs.Swap.{swapped-self, exchanged-long, columns-turn, swapped-by}
+use Rattle.forward.proofs.Swap.{swapped-self, columns-turn, swapped-by}
 use Rattle.forward.proofs.internal.pivot.swap.Statement.{statement}
 use Rattle.forward.proofs.internal.pivot.swap.Tie as tie
 use Rattle.inputs.proofs.Place.{row-small, cell-before}

@@ -1,5 +1,5 @@
 use mathlib.Core.Path.{_≡_, refl, ap, ap₂, _∙_}
-use Prim.Native.Nat.{ℕ, _+_, _-_, _*_, _≤_}
+use Prim.Native.Nat.{ℕ, _-_, _*_, _≤_}
 use native.Mathlib.Omega.{arith}
 use lib.IntN.{_*ℤ_}
 use lib.Signed.{leZ-yes}
@@ -12,7 +12,6 @@ use Rattle.integer.proofs.Order.{trans}
 use Rattle.integer.proofs.Machine.{plain}
 use Rattle.integer.proofs.Summing.{add-safe, add-is, sum-read}
 use Rattle.interval.specs.Interval.{scale}
-use Rattle.inputs.specs.Place.{at, cell}
 use Rattle.inputs.specs.System.{System, system}
 use Rattle.inputs.proofs.Place.{cell-before, row-small}
 use Rattle.start_box.specs.Sums.{magnitude}

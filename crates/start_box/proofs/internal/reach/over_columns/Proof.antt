@@ -1,11 +1,9 @@
 use mathlib.Core.Path.{_≡_, ap, ap₂, _∙_}
 use borrow.Author.Needs.{needs}
 use lib.IntN.{pos}
-use lib.Signed.{ltZ-yes}
 use mir.Syntax.{w64}
 use mir.Val.{toZ, ofZ}
 use Rattle.integer.proofs.Machine.{plain}
-use Rattle.interval.specs.Interval.{scale}
 use Rattle.interval.proofs.Range.{scale-above}
 use Rattle.start_box.specs.Sums.{greatest}
 use Rattle.start_box.specs.Reach.{divided, overColumns}

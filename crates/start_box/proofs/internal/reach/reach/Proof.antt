@@ -1,5 +1,4 @@
 use mathlib.Core.Path.{_≡_, sym, ap, _∙_}
-use borrow.Author.Needs.{needs}
 use Rattle.inputs.specs.System.{system}
 use Rattle.start_box.specs.Sums.{rowSum, columnSum, allBelowOne}
 use Rattle.start_box.specs.Reach.{coefficients}

@@ -1,14 +1,9 @@
-use mathlib.Core.Path.{_≡_, ap, _∙_}
+use mathlib.Core.Path.{ap, _∙_}
 use native.Mathlib.Omega.{arith}
 use lib.IntN.{_+ℤ_, _-ℤ_}
-use mir.Syntax.{w64}
-use mir.Val.{SFits, toZ, ofZ}
-use mir.ValLaws.{toZ-ofZ}
-use Rattle.interval.specs.declared.Interval.{Interval}
 use Rattle.interval.specs.Interval.{ends}
 use Rattle.interval.proofs.Range.{Within, Sound, is-within, is-sound, sum-fits, difference-fits, within-fits}
 use Rattle.integer.proofs.Machine.{op-safe, op-read}
-use Rattle.inputs.specs.Place.{at}
 use Rattle.start_box.specs.Call.{widened}
 use Rattle.start_box.proofs.internal.widen.widened.Statement.{statement}
 use Rattle.start_box.proofs.internal.widen.widened.Tie as tie
