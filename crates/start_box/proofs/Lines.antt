@@ -6,7 +6,7 @@ use native.Mathlib.Omega.{arith}
 use lib.IntN.{ℤ}
 use lib.ListN.{length}
 use Rattle.integer.specs.Total.{total}
-use Rattle.integer.proofs.Summing.{Term, total-term-of}
+use Rattle.integer.proofs.Summing.{Term}
 use Rattle.inputs.specs.Place.{at}
 use Rattle.inputs.specs.System.{system}
 use Rattle.inputs.proofs.Tests.{square}
@@ -50,7 +50,3 @@ module _ {n a b : ℕ} {m : List ℤ} (s : Square n m) (w : Lines n a b) (i k : 
 module _ {n : ℕ} {m : List ℤ} (s : Square n m) (a b i : ℕ) where
   pub line-term : (k : ℕ) → Term 2000000000 (magnitude (at m (i * a + k * b)))
   line-term k = magnitude-term _ (s .sound .each _)
-
-  pub line-sum-term : Term (2000000000 * n) (lineSum n m a b i)
-  unfolding lineSum
-  line-sum-term = total-term-of _ 2000000000 n (λ k h. line-term k) n (omega arith)

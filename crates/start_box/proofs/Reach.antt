@@ -19,6 +19,7 @@ use Rattle.integer.proofs.Order.{also, prod, trans, cancel}
 use Rattle.integer.proofs.Rounding.{ceil-iff, ceil-high}
 use Rattle.integer.proofs.Extremes.{max-ind}
 use Rattle.integer.proofs.Machine.{fits64}
+use Rattle.integer.proofs.Total.{total-above}
 use Rattle.integer.proofs.Summing.{Term, pos-le, total-term-of}
 use Rattle.interval.specs.Interval.{scale, lowest, highest, within}
 use Rattle.interval.proofs.Range.{scale-above}
@@ -56,11 +57,18 @@ module _ {n : ℕ} {m r : List ℤ} (w : Ready n m r) (i : ℕ) where
   abbrev s : System
   s = system n m r
 
+  pub coefficient-term : (j : ℕ) → Term 2000000000 (coefficients s i j)
+  coefficient-term j = magnitude-term _ (w .matrix .sound .each _)
+
   pub product-term : (j : ℕ) → Term 4000000000000000000 (coefficients s i j *ℤ constants s j)
-  product-term j = product-at-most (magnitude-term _ (w .matrix .sound .each _)) (magnitude-term _ (w .right .sound .each j))
+  product-term j = product-at-most (coefficient-term j) (magnitude-term _ (w .right .sound .each j))
 
   pub rounded-product : (j : ℕ) → Term 4000000000000 (ceilDiv (coefficients s i j *ℤ constants s j) scale)
   rounded-product j = rounded-term (product-term j)
+
+  pub row-above : pos 0 ≤ℤ rowSum (coefficients s) n i
+  unfolding rowSum
+  row-above = total-above _ n 0 (λ j a b. coefficient-term j .above)
 
   -- a row has at most 32 products
   pub dividend-term : Term 128000000000000 (dividend s i)

@@ -7,10 +7,13 @@ use lib.ListN.{length}
 use Rattle.outcome.specs.Run.{Run, refused, done}
 use Rattle.integer.specs.Total.{total}
 use Rattle.inputs.specs.Place.{at}
+use Rattle.inputs.specs.System.{System}
 use Rattle.inputs.specs.Code.{Sound}
 use Rattle.start_box.specs.declared.internal.reach.Reached.{Reached}
 use Rattle.start_box.specs.declared.internal.reach.Reached.the-variants.{At, Stopped}
-use Rattle.start_box.specs.Sums.{magnitude}
+use Rattle.start_box.specs.declared.internal.reach.RowTotals.{RowTotals}
+use Rattle.start_box.specs.Sums.{magnitude, rowSum}
+use Rattle.start_box.specs.Reach.{coefficients, dividend}
 
 -- a matrix of n rows and columns, all of them intervals
 pub record Square (n : ℕ) (m : List ℤ) : Type 0 where
@@ -36,6 +39,11 @@ pub record Lines (n a b : ℕ) : Type 0 where
 -- the sum of the magnitudes of line i
 unfoldable pub lineSum : (n : ℕ) (m : List ℤ) (a b i : ℕ) → ℤ
 lineSum n m a b i = total (λ k. magnitude (at m (i * a + k * b))) n 0
+
+-- what the code gets of a row in one loop
+pub record Totalled (s : System) (i : ℕ) (t : RowTotals) : Type 0 where
+  pub sum : t .sum ≡ rowSum (coefficients s) (s .size) i
+  pub dividend : t .dividend ≡ dividend s i
 
 -- the reach, as the definition has it
 abbrev pub reachOf : Reached → Run ℤ

@@ -1,6 +1,5 @@
 use crate::internal::sums::all_below_one;
 use crate::internal::sums::greatest_sum;
-use crate::internal::sums::line_sum;
 use crate::internal::sums::magnitude;
 use inputs::internal::read;
 use integer::internal::ceil_div;
@@ -17,9 +16,9 @@ ghost use lib.Signed.{_≤ℤ_, _<ℤ_};
 ghost use Rattle.integer.specs.Total.{total};
 ghost use Rattle.interval.specs.Interval.{scale};
 ghost use Rattle.inputs.specs.System.{system};
-ghost use Rattle.start_box.specs.Sums.{allBelowOne};
-ghost use Rattle.start_box.specs.Reach.{dividend, divided, overRows, overColumns, reach};
-ghost use Rattle.start_box.specs.Code.{Ready, lineSum, reachOf};
+ghost use Rattle.start_box.specs.Sums.{rowSum, allBelowOne};
+ghost use Rattle.start_box.specs.Reach.{coefficients, dividend, divided, overRows, overColumns, reach};
+ghost use Rattle.start_box.specs.Code.{Ready, lineSum, Totalled, reachOf};
 
 // The reach, or how the calculation stopped.
 pub enum Reached {
@@ -27,22 +26,30 @@ pub enum Reached {
     Stopped(Outcome),
 }
 
-// Row i of |B|·|b|, each product rounded up.
-fn dividend(n: usize, m: &[i64], r: &[i64], i: usize) -> i64
+// Of a row: its magnitudes summed, and its products with those of the right side.
+struct RowTotals {
+    sum: i64,
+    dividend: i64,
+}
+
+// The sum of row i of |B|, and row i of |B|·|b|, each product rounded up: both in one loop, since both read the row.
+fn row_totals(n: usize, m: &[i64], r: &[i64], i: usize) -> RowTotals
     requires { ⌜ Ready n (now m) (now r) × (i < n) ⌝ }
-    ensures { λ z. ⌜ z ≡ dividend (system n (now (m .entry)) (now (r .entry))) i ⌝ }
+    ensures { λ t. ⌜ Totalled (system n (now (m .entry)) (now (r .entry))) i t ⌝ }
 {
     let p = i * n;
     let mut sum: i64 = 0;
+    let mut dividend: i64 = 0;
     for j in 0..n {
         let v = read(m, p + j);
         let w = read(r, j);
         let a = magnitude(v);
         let b = magnitude(w);
         let z = scaled_up(a * b);
-        sum = sum + z;
+        sum = sum + a;
+        dividend = dividend + z;
     }
-    sum
+    RowTotals { sum, dividend }
 }
 
 // The sum over all rows.
@@ -52,8 +59,8 @@ fn all_dividends(n: usize, m: &[i64], r: &[i64]) -> i64
 {
     let mut sum: i64 = 0;
     for i in 0..n {
-        let z = dividend(n, m, r, i);
-        sum = sum + z;
+        let t = row_totals(n, m, r, i);
+        sum = sum + t.dividend;
     }
     sum
 }
@@ -74,14 +81,13 @@ fn divided(p: i64, sum: i64) -> Reached
 
 // The greatest quotient of a row.
 fn over_rows(n: usize, m: &[i64], r: &[i64]) -> Reached
-    requires { ⌜ Ready n (now m) (now r) × (allBelowOne (lineSum n (now m) n 1) n 0 ≡ true) ⌝ }
+    requires { ⌜ Ready n (now m) (now r) × (allBelowOne (rowSum (coefficients (system n (now m) (now r))) n) n 0 ≡ true) ⌝ }
     ensures { λ z. ⌜ reachOf z ≡ overRows (system n (now (m .entry)) (now (r .entry))) n 0 (pos 0) ⌝ }
 {
     let mut most: i64 = 0;
     for i in 0..n {
-        let s = line_sum(n, m, n, 1, i);
-        let p = dividend(n, m, r, i);
-        match divided(p, s) {
+        let t = row_totals(n, m, r, i);
+        match divided(t.dividend, t.sum) {
             Reached::At(q) => {
                 most = max_of(most, q);
             }

@@ -21,17 +21,18 @@ loop-holds : tie.Need-loop-holds Inv-loop μ-loop
 unfolding total
 loop-holds c = (omega arith, refl)
 
-dividend-requires : tie.Need-dividend-requires Inv-loop μ-loop
-dividend-requires c κs = (c .before .before .pre, c .loop-test .taken)
+row-totals-requires : tie.Need-row-totals-requires Inv-loop μ-loop
+row-totals-requires c κs = (c .before .before .pre, c .loop-test .taken)
 
 few : (n : ℕ) → n ≤ 32 → 128000000000000 * n ≤ 1000000000000000000
 few n h = omega arith
 
 add-sum : tie.Need-add-sum Inv-loop μ-loop
 add-sum c =
-    let l = c .before .before in
+    let t = c .before .before in
+    let l = t .before .before in
     let s = l .before in
-    add-safe _ 128000000000000 (s .args .n) (λ i h. dividend-term (s .pre) i) (few _ (s .pre .matrix .few)) (l .loop .i) (c .before .loop-test .taken) (l .loop .inv .1) (c .dividend .ensures)
+    add-safe _ 128000000000000 (s .args .n) (λ i h. dividend-term (s .pre) i) (few _ (s .pre .matrix .few)) (l .loop .i) (t .before .loop-test .taken) (l .loop .inv .1) (t .row-totals .ensures .dividend)
 
 add-i : tie.Need-add-i Inv-loop μ-loop
 add-i c = omega arith
@@ -41,9 +42,10 @@ loop-less c = omega arith
 
 loop-again : tie.Need-loop-again Inv-loop μ-loop
 loop-again c =
-    let l = c .before .before in
+    let t = c .before .before in
+    let l = t .before .before in
     let s = l .before in
-    (omega arith, add-is _ 128000000000000 (s .args .n) (λ i h. dividend-term (s .pre) i) (few _ (s .pre .matrix .few)) (l .loop .i) (c .before .loop-test .taken) (l .loop .inv .1) (c .dividend .ensures))
+    (omega arith, add-is _ 128000000000000 (s .args .n) (λ i h. dividend-term (s .pre) i) (few _ (s .pre .matrix .few)) (l .loop .i) (t .before .loop-test .taken) (l .loop .inv .1) (t .row-totals .ensures .dividend))
 
 returns : tie.Need-returns Inv-loop μ-loop
 returns c =
@@ -58,7 +60,7 @@ all-dividends-spec =
     Inv-loop
     μ-loop
     loop-holds
-    dividend-requires
+    row-totals-requires
     add-sum
     add-i
     loop-less

@@ -12,10 +12,9 @@ use Rattle.integer.proofs.Machine.{plain}
 use Rattle.inputs.specs.System.{System, system}
 use Rattle.start_box.specs.Sums.{rowSum}
 use Rattle.start_box.specs.Reach.{coefficients, dividend, divided, overRows}
-use Rattle.start_box.specs.Code.{lineSum, reachOf}
-use Rattle.start_box.proofs.Lines.{rows-lines, row-line, line-sum-term}
+use Rattle.start_box.specs.Code.{reachOf}
 use Rattle.start_box.proofs.Sums.{below-each}
-use Rattle.start_box.proofs.Reach.{rows-end, rows-stop, rows-go}
+use Rattle.start_box.proofs.Reach.{row-above, rows-end, rows-stop, rows-go}
 use Rattle.start_box.proofs.internal.reach.over_rows.Statement.{statement}
 use Rattle.start_box.proofs.internal.reach.over_rows.Tie as tie
 
@@ -28,34 +27,32 @@ abbrev μ-loop : tie.MeasureT-loop
 loop-holds : tie.Need-loop-holds Inv-loop μ-loop
 loop-holds c = (omega arith, ap (λ d. overRows (system (c .args .n) (c .args .m .now) (c .args .r .now)) d 0 (pos 0)) (sym (sub-zero (c .args .n))))
 
-line-sum-requires : tie.Need-line-sum-requires Inv-loop μ-loop
-line-sum-requires c κs = (c .before .before .pre .0 .matrix, rows-lines _, c .loop-test .taken)
+row-totals-requires : tie.Need-row-totals-requires Inv-loop μ-loop
+row-totals-requires c κs = (c .before .before .pre .0, c .loop-test .taken)
 
-dividend-requires : tie.Need-dividend-requires Inv-loop μ-loop
-dividend-requires c κs = (c .before .before .before .pre .0, c .before .loop-test .taken)
-
--- the sum of this row, as the code has it
+-- the sum of this row and its dividend, as the code has them
 abbrev lent : tie.Start Inv-loop μ-loop → System
 lent s = system (s .args .n) (s .args .m .now) (s .args .r .now)
 
-sum-is : (c : tie.After-line-sum Inv-loop μ-loop) → let l = c .before .before in let a = l .before .args in
-    toZ w64 (ofZ w64 (c .line-sum .result)) ≡ lineSum (a .n) (a .m .now) (a .n) 1 (l .loop .i)
-sum-is c = plain _ (c .line-sum .ok) ∙ c .line-sum .ensures
+sum-is : (c : tie.After-row-totals Inv-loop μ-loop) → let l = c .before .before in let s = lent (l .before) in
+    toZ w64 (ofZ w64 (c .row-totals .result .sum)) ≡ rowSum (coefficients s) (s .size) (l .loop .i)
+sum-is c = let fits : SFits w64 (c .row-totals .result .sum) = search needs in toZ-ofZ w64 _ fits ∙ c .row-totals .ensures .sum
+
+dividend-is : (c : tie.After-row-totals Inv-loop μ-loop) → let l = c .before .before in
+    toZ w64 (ofZ w64 (c .row-totals .result .dividend)) ≡ dividend (lent (l .before)) (l .loop .i)
+dividend-is c = let fits : SFits w64 (c .row-totals .result .dividend) = search needs in toZ-ofZ w64 _ fits ∙ c .row-totals .ensures .dividend
 
 divided-requires : tie.Need-divided-requires Inv-loop μ-loop
 divided-requires c κs =
-    let a = c .before in
+    let a = c .before .before in
     let l = a .before .before in
     let s = l .before in
-    rw (sum-is a) (line-sum-term (s .pre .0 .matrix) _ _ _ .above, below-each _ _ 0 (s .pre .1) (l .loop .i) (omega arith) (omega (arith, a .before .loop-test .taken)))
+    rw (sum-is a) (row-above (s .pre .0) (l .loop .i), below-each _ _ 0 (s .pre .1) (l .loop .i) (omega arith) (omega (arith, a .before .loop-test .taken)))
 
 -- the quotient of this row
-row-is : (c : tie.After-divided Inv-loop μ-loop) → let l = c .before .before .before .before in let s = lent (l .before) in
+row-is : (c : tie.After-divided Inv-loop μ-loop) → let l = c .before .before .before .before .before in let s = lent (l .before) in
     reachOf (c .divided .result) ≡ divided (dividend s (l .loop .i)) (rowSum (coefficients s) (s .size) (l .loop .i))
-row-is c =
-    let d = c .before in
-    let l = d .before .before .before in
-    c .divided .ensures ∙ ap₂ divided (plain _ (d .dividend .ok) ∙ d .dividend .ensures) (sum-is (d .before) ∙ ap (λ f. f (l .loop .i)) (row-line _ _ (l .before .args .r .now)))
+row-is c = let a = c .before .before .before in c .divided .ensures ∙ ap₂ divided (dividend-is a) (sum-is a)
 
 enum-known-q : tie.Need-enum-known-q Inv-loop μ-loop
 enum-known-q c = search needs
@@ -69,8 +66,8 @@ enum-known-o c = search needs
 returns : tie.Need-returns Inv-loop μ-loop
 returns c =
     let d = c .before .before .before in
-    let l = d .before .before .before .before in
-    sym (l .loop .inv .1 ∙ rows-stop _ _ _ (d .before .before .before .loop-test .taken) (ap reachOf (sym (c .before .o .given .1)) ∙ row-is d))
+    let l = d .before .before .before .before .before in
+    sym (l .loop .inv .1 ∙ rows-stop _ _ _ (d .before .before .before .before .loop-test .taken) (ap reachOf (sym (c .before .o .given .1)) ∙ row-is d))
 
 add-i : tie.Need-add-i Inv-loop μ-loop
 add-i c = omega arith
@@ -81,12 +78,12 @@ loop-less c = omega arith
 loop-again : tie.Need-loop-again Inv-loop μ-loop
 loop-again c =
     let d = c .before .before .before .before in
-    let l = d .before .before .before .before in
+    let l = d .before .before .before .before .before in
     let q = c .before .before .q .given .0 .0 in
     let fits : SFits w64 q = search needs in
     let next : toZ w64 (ofZ w64 (c .max-of .result)) ≡ maximum (toZ w64 (l .loop .most)) q =
     plain _ (c .max-of .ok) ∙ c .max-of .ensures ∙ ap (maximum (toZ w64 (l .loop .most))) (toZ-ofZ w64 q fits) in
-    (omega arith, l .loop .inv .1 ∙ rows-go _ _ _ (d .before .before .before .loop-test .taken) (ap reachOf (sym (c .before .before .q .given .1)) ∙ row-is d) ∙ ap (overRows _ _ _) (sym next))
+    (omega arith, l .loop .inv .1 ∙ rows-go _ _ _ (d .before .before .before .before .loop-test .taken) (ap reachOf (sym (c .before .before .q .given .1)) ∙ row-is d) ∙ ap (overRows _ _ _) (sym next))
 
 returns-2 : tie.Need-returns-2 Inv-loop μ-loop
 returns-2 c = sym (c .before .loop .inv .1 ∙ rows-end _ _ _ (c .loop-test .left))
@@ -98,8 +95,7 @@ over-rows-spec =
     Inv-loop
     μ-loop
     loop-holds
-    line-sum-requires
-    dividend-requires
+    row-totals-requires
     divided-requires
     enum-known-q
     max-of-requires

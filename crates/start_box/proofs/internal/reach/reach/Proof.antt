@@ -18,7 +18,7 @@ all-below-one-requires : tie.Need-all-below-one-requires
 all-below-one-requires c κs = (c .pre .matrix, rows-lines _)
 
 over-rows-requires : tie.Need-over-rows-requires
-over-rows-requires c κs = (c .before .before .pre, sym (c .before .all-below-one .ensures) ∙ c .if1 .taken)
+over-rows-requires c κs = (c .before .before .pre, sym (rows-test (c .before)) ∙ c .if1 .taken)
 
 returns : tie.Need-returns
 returns c = let t = c .before in c .over-rows .ensures ∙ reach-rows _ (sym (rows-test (t .before)) ∙ t .if1 .taken)
