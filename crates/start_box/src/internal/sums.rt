@@ -48,7 +48,7 @@ pub fn all_below_one(n: usize, m: &[i64], a: usize, b: usize) -> bool
     true
 }
 
-// The greatest of them; 0 is none below it.
+// The greatest of them. None is below 0, from which the loop starts.
 pub fn greatest_sum(n: usize, m: &[i64], a: usize, b: usize) -> i64
     requires { ⌜ Square n (now m) × Lines n a b ⌝ }
     ensures { λ r. ⌜ r ≡ greatest (lineSum n (now (m .entry)) a b) n 0 (pos 0) ⌝ }
