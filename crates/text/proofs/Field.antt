@@ -6,10 +6,11 @@ use native.Mathlib.Omega.{arith}
 use native.Mathlib.Nat.{zero-add}
 use lib.ListN.{length, take, drop, length-drop}
 use lib.Seq.{length-take-le}
-use Rattle.text.specs.declared.internal.search.Found.the-variants.{Nothing}
+use Rattle.search.specs.declared.Found.the-variants.{Nothing}
 use Rattle.text.specs.Parts.{fields, part, startOf}
-use Rattle.text.specs.Code.{firstFrom}
-use Rattle.text.proofs.Parts.{FirstAt, parts-at, parts-none}
+use Rattle.search.specs.First.{firstFrom}
+use Rattle.search.proofs.Answer.{FirstAt}
+use Rattle.text.proofs.Parts.{parts-at, parts-none}
 
 -- i parts are passed and the next one starts at `at`: the part with the number k is then the one with the number k − i from there
 pub record Reached (line : List ℕ) (k i at : ℕ) : Type 0 where

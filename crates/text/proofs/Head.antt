@@ -12,7 +12,7 @@ use lib.Seq.{take-take, take-add, drop-at, length-take-le}
 use Rattle.outcome.specs.Run.{Run, done, andThen}
 use Rattle.inputs.specs.System.{system}
 use Rattle.inputs.proofs.Tests.{square}
-use Rattle.text.specs.declared.internal.search.Found.the-variants.{At, Nothing}
+use Rattle.search.specs.declared.Found.the-variants.{At, Nothing}
 use Rattle.text.specs.declared.internal.names.Names.the-variants as names
 use Rattle.text.specs.declared.internal.lines.Heading.{Heading}
 use Rattle.text.specs.declared.internal.lines.Rows as code
@@ -21,7 +21,8 @@ use Rattle.text.specs.declared.internal.lines.Reading.the-variants as wh
 use Rattle.text.specs.Parts.{parts, fields}
 use Rattle.text.specs.Names.{areNames}
 use Rattle.text.specs.Text.{faulty, Head, firstLine, head, rowsFrom, Cellar, afterHead, reading}
-use Rattle.text.specs.Code.{firstFrom, namesOf, Few, rowsAre, Headed, readingIs}
+use Rattle.search.specs.First.{firstFrom}
+use Rattle.text.specs.Code.{namesOf, Few, rowsAre, Headed, readingIs}
 use Rattle.text.proofs.Parts.{parts-at, parts-none, parts-some}
 use Rattle.text.proofs.Lines.{row-after}
 

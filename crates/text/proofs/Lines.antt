@@ -10,11 +10,11 @@ use lib.Dec.{eqb}
 use lib.IntN.{ℤ}
 use lib.ListN.{length, take, drop, length-drop, drop-of-length-le}
 use Rattle.outcome.specs.Run.{Run, refused, done, andThen}
-use Rattle.text.specs.declared.internal.search.Found.the-variants.{At, Nothing}
+use Rattle.search.specs.declared.Found.the-variants.{At, Nothing}
 use Rattle.text.specs.Parts.{longer, parts, fields}
 use Rattle.text.specs.Number.{then, values}
 use Rattle.text.specs.Text.{faulty, onLine, before, atEnd, rowsFrom}
-use Rattle.text.specs.Code.{firstFrom}
+use Rattle.search.specs.First.{firstFrom}
 use Rattle.text.proofs.Parts.{parts-at, parts-none, parts-some}
 
 -- ---- the numbers a are read, and then come those of line k and of the lines after it

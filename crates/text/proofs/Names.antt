@@ -11,13 +11,14 @@ use lib.Dec.{eqb, leb}
 use lib.ListN.{length, getD, take, drop, length-drop, drop-of-length-le}
 use lib.Seq.{drop-cons, length-take-le}
 use Rattle.interval.proofs.Range.{and-both}
-use Rattle.text.specs.declared.internal.search.Found.the-variants.{At, Nothing}
+use Rattle.search.specs.declared.Found.the-variants.{At, Nothing}
 use Rattle.text.specs.declared.internal.names.Names.{Names}
 use Rattle.text.specs.declared.internal.names.Names.the-variants.{Count, Faulty}
 use Rattle.text.specs.Parts.{fields}
 use Rattle.text.specs.Number.{isDigit}
 use Rattle.text.specs.Names.{nameByte, allBytes, isName, same, among, eachName, areNames}
-use Rattle.text.specs.Code.{firstFrom, namesOf}
+use Rattle.search.specs.First.{firstFrom}
+use Rattle.text.specs.Code.{namesOf}
 use Rattle.text.proofs.Parts.{parts-none, parts-at, parts-some}
 
 -- ---- the bytes of a name

@@ -1,43 +1,16 @@
--- One turn of the search, and what it finds says of the parts between the bytes sought.
-use mathlib.Core.Path.{_≡_, refl, sym, subst, _∙_}
+-- What a search finds says of the parts between the bytes sought.
+use mathlib.Core.Path.{_≡_, refl, sym, _∙_}
 use mathlib.Core.Bool.{Bool, true, false}
 use mathlib.Core.List.{List, [], _∷_}
-use Prim.Native.Nat.{ℕ, suc, _+_, _-_, _≤_, _<_}
-use native.Mathlib.Numerals.{add-one}
+use Prim.Native.Nat.{ℕ, suc, _+_, _-_, _≤_}
 use native.Mathlib.Omega.{arith}
-use borrow.Author.Tests.{eq-eqb, ne-eqb}
 use lib.Dec.{eqb}
-use lib.ListN.{length, getD, take, drop, length-drop, drop-of-length-le}
-use lib.Seq.{drop-cons, drop-drop, take-all}
-use Rattle.text.specs.declared.internal.search.Found.{Found}
-use Rattle.text.specs.declared.internal.search.Found.the-variants.{At, Nothing}
+use lib.ListN.{length, take, drop, length-drop}
+use lib.Seq.{drop-drop, take-all}
+use Rattle.search.specs.declared.Found.the-variants.{At, Nothing}
+use Rattle.search.specs.First.{firstIn, firstFrom}
+use Rattle.search.proofs.Answer.{found-not}
 use Rattle.text.specs.Parts.{longer, parts}
-use Rattle.text.specs.Code.{firstIn, firstFrom, within}
-
-module _ (s : List ℕ) (b i : ℕ) where
-  pub there : i < length s → getD s i 0 ≡ b → firstFrom s i b ≡ At i
-  unfolding firstFrom firstIn
-  there h e = rw (drop-cons s i 0, eq-eqb _ _ e)
-
-  pub not-there : i < length s → (getD s i 0 ≡ b → ⊥) → firstFrom s i b ≡ firstFrom s (i + 1) b
-  unfolding firstFrom firstIn
-  not-there h n = rw (add-one, drop-cons s i 0, ne-eqb _ _ n, add-one)
-
-  pub past : length s ≤ i → firstFrom s i b ≡ Nothing
-  unfolding firstFrom firstIn
-  past h = rw (drop-of-length-le s h)
-
--- b stands at e, for the first time from a place on: what a search says that found it
-pub record FirstAt (s : List ℕ) (from b e : ℕ) : Type 0 where
-  pub is : firstFrom s from b ≡ At e
-  pub low : from ≤ e
-  pub high : e < length s
-
-pub first-at : {s : List ℕ} {from b e : ℕ} {r : Found} → (r ≡ firstFrom s from b) × within s from r → r ≡ At e → FirstAt s from b e
-first-at {s} {from} c q = let w = subst (within s from) q (c .1) in record { is = sym (c .0) ∙ q; low = w .0; high = w .1 }
-
-found-not : {A : Type 0} {e : ℕ} → At e ≡ Nothing → A
-found-not e = let z : _≡_ {A = ℕ} 0 1 = cc in absurd (omega arith)
 
 -- the parts of a list, by where the first b stands in it
 parts-none-in : (xs : List ℕ) (b i : ℕ) → firstIn xs b i ≡ Nothing → parts b xs ≡ xs ∷ []

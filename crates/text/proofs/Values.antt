@@ -16,13 +16,14 @@ use mir.Val.{SFits, toZ, ofZ}
 use mir.ValLaws.{toZ-ofZ}
 use Rattle.interval.specs.declared.Interval.{Interval}
 use Rattle.inputs.specs.Place.{put}
-use Rattle.text.specs.declared.internal.search.Found.{Found}
-use Rattle.text.specs.declared.internal.search.Found.the-variants.{At, Nothing}
+use Rattle.search.specs.declared.Found.{Found}
+use Rattle.search.specs.declared.Found.the-variants.{At, Nothing}
 use Rattle.text.specs.declared.internal.number.Number.{Number}
 use Rattle.text.specs.declared.internal.number.Number.the-variants.{Units}
 use Rattle.text.specs.Parts.{parts, fields}
 use Rattle.text.specs.Number.{isDigit, digits, plain, magnitude, below, number, bothEnds, value, then, values}
-use Rattle.text.specs.Code.{firstIn, firstFrom, numberOf, pair}
+use Rattle.search.specs.First.{firstIn, firstFrom}
+use Rattle.text.specs.Code.{numberOf, pair}
 use Rattle.text.proofs.Parts.{parts-at, parts-none, parts-some, to-end}
 
 -- ---- a ':' is in no number, so a second one makes a field no value

@@ -10,8 +10,6 @@ use lib.ListN.{length, take, drop}
 use Rattle.outcome.specs.Run.{Run, done, Returned, ended}
 use Rattle.inputs.specs.Tests.{tested}
 use Rattle.inputs.specs.System.{System, system}
-use Rattle.text.specs.declared.internal.search.Found.{Found}
-use Rattle.text.specs.declared.internal.search.Found.the-variants.{At, Nothing}
 use Rattle.text.specs.declared.internal.names.Names.{Names}
 use Rattle.text.specs.declared.internal.names.Names.the-variants as names
 use Rattle.text.specs.declared.internal.number.Magnitude.{Magnitude}
@@ -32,20 +30,6 @@ use Rattle.text.specs.Names.{areNames}
 use Rattle.text.specs.Text as text
 use Rattle.text.specs.Text.{Cellar, faulty}
 use Rattle.text.specs.Call.{Lent, room, filled}
-
--- ---- a search: the first b in a list whose first byte has the place i
-unfoldable pub firstIn : List ℕ → (b i : ℕ) → Found
-firstIn [] b i = Nothing
-firstIn (x ∷ xs) b i = cond (eqb x b) (At i) (firstIn xs b (i + 1))
-
--- the place of the first b in s, from a place on
-unfoldable pub firstFrom : List ℕ → (from b : ℕ) → Found
-firstFrom s from b = firstIn (drop from s) b from
-
--- a place that was found lies in s, from `from` on
-abbrev pub within : List ℕ → (from : ℕ) → Found → Type 0
-within s from (At j) = (from ≤ j) × (j < length s)
-within s from Nothing = Unit
 
 -- ---- what the code's answers say was read
 abbrev pub magnitudeOf : Magnitude → Option ℕ

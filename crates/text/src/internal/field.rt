@@ -1,5 +1,5 @@
-use crate::internal::search::Found;
-use crate::internal::search::search;
+use search::Found;
+use search::first;
 ghost use mathlib.Core.Path.{_≡_};
 ghost use Prim.Native.Nat.{_+_, _≤_, _<_};
 ghost use lib.ListN.{length, drop};
@@ -13,7 +13,7 @@ pub fn start_of(line: &[u8], k: usize) -> usize
 {
     let mut at = 0;
     for i in 0..k {
-        match search(line, at, b';') {
+        match first(line, at, b';') {
             Found::At(e) => {
                 at = e + 1;
             }
@@ -30,7 +30,7 @@ pub fn stop_from(line: &[u8], at: usize) -> usize
     requires { ⌜ at ≤ length (now line) ⌝ }
     ensures { λ r. ⌜ (r ≡ at + length (part (fields (drop at (now (line .entry)))) 0)) × (r ≤ length (now (line .entry))) ⌝ }
 {
-    match search(line, at, b';') {
+    match first(line, at, b';') {
         Found::At(e) => e,
         Found::Nothing => line.len(),
     }

@@ -1,8 +1,8 @@
 use crate::internal::names::Names;
 use crate::internal::names::read_names;
-use crate::internal::search::Found;
-use crate::internal::search::search;
 use crate::internal::values::read_values;
+use search::Found;
+use search::first;
 ghost use mathlib.Core.Path.{_≡_};
 ghost use Prim.Native.Nat.{_+_, _*_, _≤_};
 ghost use lib.ListN.{length, take, drop};
@@ -40,7 +40,7 @@ pub fn read_head(text: &[u8]) -> Head
     if text.len() > 65_536 {
         return Head::Faulty(0);
     }
-    match search(text, 0, 10) {
+    match first(text, 0, 10) {
         Found::At(e) => match read_names(&text[..e]) {
             Names::Count(n) => Head::Named(Heading { count: n, stop: e }),
             Names::Faulty => Head::Faulty(1),
@@ -57,7 +57,7 @@ fn read_rows(text: &[u8], from: usize, n: usize, t: &mut [i64]) -> Rows
 {
     let mut at = from;
     for i in 0..n + 1 {
-        match search(text, at, 10) {
+        match first(text, at, 10) {
             Found::At(e) => {
                 if !read_values(&text[at..e], n, t, i * n) {
                     return Rows::Faulty(i + 2);

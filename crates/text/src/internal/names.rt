@@ -1,5 +1,5 @@
-use crate::internal::search::Found;
-use crate::internal::search::search;
+use search::Found;
+use search::first;
 ghost use mathlib.Core.Path.{_≡_};
 ghost use Rattle.text.specs.Parts.{fields};
 ghost use Rattle.text.specs.Names.{nameByte, isName, among};
@@ -47,7 +47,7 @@ fn is_among(rest: &[u8], name: &[u8]) -> bool
 {
     let mut at = 0;
     loop {
-        match search(rest, at, b';') {
+        match first(rest, at, b';') {
             Found::At(e) => {
                 if check::same(&rest[at..e], name) {
                     return true;
@@ -68,7 +68,7 @@ pub fn read_names(line: &[u8]) -> Names
 {
     let mut at = 0;
     for n in 0..32 {
-        match search(line, at, b';') {
+        match first(line, at, b';') {
             Found::At(e) => {
                 let name = &line[at..e];
                 if !is_name(name) {

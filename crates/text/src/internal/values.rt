@@ -1,9 +1,9 @@
 use crate::internal::number::Number;
 use crate::internal::number::number_of;
-use crate::internal::search::Found;
-use crate::internal::search::search;
 use inputs::internal::write;
 use interval::Interval;
+use search::Found;
+use search::first;
 ghost use mathlib.Core.Path.{_≡_};
 ghost use Prim.Native.Nat.{_+_, _*_, _≤_};
 ghost use lib.ListN.{length, take};
@@ -34,7 +34,7 @@ fn both_ends(lower: Number, upper: Number) -> Value
 fn value_of(field: &[u8]) -> Value
     ensures { λ r. ⌜ valueOf r ≡ value (now (field .entry)) ⌝ }
 {
-    match search(field, 0, b':') {
+    match first(field, 0, b':') {
         Found::At(c) => {
             let lower = number_of(&field[..c]);
             let upper = number_of(&field[c + 1..]);
@@ -67,7 +67,7 @@ pub fn read_values(line: &[u8], n: usize, t: &mut [i64], p: usize) -> bool
 {
     let mut at = 0;
     for i in 0..n - 1 {
-        match search(line, at, b';') {
+        match first(line, at, b';') {
             Found::At(e) => {
                 if !place_value(&line[at..e], t, p + i) {
                     return false;
@@ -79,7 +79,7 @@ pub fn read_values(line: &[u8], n: usize, t: &mut [i64], p: usize) -> bool
             }
         }
     }
-    match search(line, at, b';') {
+    match first(line, at, b';') {
         Found::At(_) => false,
         Found::Nothing => place_value(&line[at..], t, p + (n - 1)),
     }

@@ -2,7 +2,7 @@ use mathlib.Core.Path.{sym, _∙_}
 use Prim.Native.Nat.{_-_}
 use native.Mathlib.Omega.{arith}
 use borrow.Author.Needs.{needs}
-use Rattle.text.proofs.Parts.{FirstAt, first-at}
+use Rattle.search.proofs.Answer.{FirstAt, first-at}
 use Rattle.text.proofs.Field.{Reached, reached-first, reached-next, reached-not, reached-last}
 use Rattle.text.proofs.internal.field.start_of.Statement.{statement}
 use Rattle.text.proofs.internal.field.start_of.Tie as tie
@@ -15,13 +15,13 @@ abbrev μ-loop : tie.MeasureT-loop
 
 -- where the search found the end of a part
 found : (c : tie.After-known-told Inv-loop μ-loop) → let l = c .before .before .before .before .before in FirstAt (l .before .before .args .line .now) (l .loop .at) 59 (c .before .e .given .0 .0)
-found c = first-at (c .before .before .before .search .ensures) (c .before .e .given .1)
+found c = first-at (c .before .before .before .first .ensures) (c .before .e .given .1)
 
 loop-holds : tie.Need-loop-holds Inv-loop μ-loop
 loop-holds c = reached-first _ _ (c .before .pre)
 
-search-requires : tie.Need-search-requires Inv-loop μ-loop
-search-requires c κs = search needs
+first-requires : tie.Need-first-requires Inv-loop μ-loop
+first-requires c κs = search needs
 
 enum-known-e : tie.Need-enum-known-e Inv-loop μ-loop
 enum-known-e c = search needs
@@ -36,7 +36,7 @@ returns : tie.Need-returns Inv-loop μ-loop
 returns c =
     let a = c .before .before in
     let l = a .before in
-    reached-not _ _ _ _ (l .before .loop .inv) (l .loop-test .taken) (sym (a .search .ensures .0) ∙ c .enum-told .given .1)
+    reached-not _ _ _ _ (l .before .loop .inv) (l .loop-test .taken) (sym (a .first .ensures .0) ∙ c .enum-told .given .1)
 
 add-i : tie.Need-add-i Inv-loop μ-loop
 add-i c = omega arith
@@ -59,7 +59,7 @@ start-of-spec =
     Inv-loop
     μ-loop
     loop-holds
-    search-requires
+    first-requires
     enum-known-e
     add-at
     enum-told

@@ -3,20 +3,20 @@ use native.Mathlib.Omega.{arith}
 use borrow.Author.Needs.{needs}
 use lib.Seq.{length-take-le}
 use Rattle.text.specs.Code.{Few}
-use Rattle.text.proofs.Parts.{FirstAt, first-at}
+use Rattle.search.proofs.Answer.{FirstAt, first-at}
 use Rattle.text.proofs.Head.{head-long, head-unended, head-faulty, head-named}
 use Rattle.text.proofs.internal.lines.read_head.Statement.{statement}
 use Rattle.text.proofs.internal.lines.read_head.Tie as tie
 
 -- where line 1 ends
 found : (a : tie.After-e) → FirstAt (a .before .before .before .before .before .args .text .now) 0 10 (a .e .given .0 .0)
-found a = first-at (a .before .before .search .ensures) (a .e .given .1)
+found a = first-at (a .before .before .first .ensures) (a .e .given .1)
 
 returns : tie.Need-returns
 returns c = head-long _ (c .if1 .taken)
 
-search-requires : tie.Need-search-requires
-search-requires c κs = search needs
+first-requires : tie.Need-first-requires
+first-requires c κs = search needs
 
 enum-known-e : tie.Need-enum-known-e
 enum-known-e c = search needs
@@ -51,14 +51,14 @@ returns-3 c =
     head-faulty _ (a .before .before .before .if1 .left) (found a .is) (sym (d .read-names .ensures .0) ∙ c .enum-told .given .1)
 
 returns-4 : tie.Need-returns-4
-returns-4 c = head-unended _ (c .before .before .before .if1 .left) (sym (c .before .before .search .ensures .0) ∙ c .enum-told2 .given .1)
+returns-4 c = head-unended _ (c .before .before .before .if1 .left) (sym (c .before .before .first .ensures .0) ∙ c .enum-told2 .given .1)
 
 pub read-head-spec : {M : Type 1} → statement M
 read-head-spec =
     tie.close
     (tie.spec
     returns
-    search-requires
+    first-requires
     enum-known-e
     slice-aggregate-read-names
     read-names-requires

@@ -10,7 +10,7 @@ use Rattle.outcome.specs.Run.{Run, done}
 use Rattle.text.specs.Parts.{parts}
 use Rattle.text.specs.Text.{before, rowsFrom, faulty}
 use Rattle.text.specs.Code.{onlyIf}
-use Rattle.text.proofs.Parts.{FirstAt, first-at}
+use Rattle.search.proofs.Answer.{FirstAt, first-at}
 use Rattle.text.proofs.Lines.{rows-first, rows-go, rows-out, rows-missing, rows-end, rows-surplus, room, row-after}
 use Rattle.text.proofs.internal.lines.read_rows.Statement.{statement}
 use Rattle.text.proofs.internal.lines.read_rows.Tie as tie
@@ -25,7 +25,7 @@ abbrev μ-loop : tie.MeasureT-loop
 
 -- where the search found the end of a line
 found : (k : tie.After-known-told Inv-loop μ-loop) → let l = k .before .before .before .before .before in FirstAt (l .before .before .args .text .now) (l .loop .at) 10 (k .before .e .given .0 .0)
-found k = first-at (k .before .before .before .search .ensures) (k .before .e .given .1)
+found k = first-at (k .before .before .before .first .ensures) (k .before .e .given .1)
 
 add-i-end : tie.Need-add-i-end Inv-loop μ-loop
 add-i-end c = omega arith
@@ -35,8 +35,8 @@ loop-holds c =
     let a = c .before in
     (a .pre .0, omega arith, a .pre .2, rows-first (a .args .n) (a .args .t .now) (parts 10 (drop (a .args .from) (a .args .text .now))))
 
-search-requires : tie.Need-search-requires Inv-loop μ-loop
-search-requires c κs = search needs
+first-requires : tie.Need-first-requires Inv-loop μ-loop
+first-requires c κs = search needs
 
 enum-known-e : tie.Need-enum-known-e Inv-loop μ-loop
 enum-known-e c = search needs
@@ -91,7 +91,7 @@ returns-2 : tie.Need-returns-2 Inv-loop μ-loop
 returns-2 c =
     let l = c .before .before .before .before in
     let a = l .before .before in
-    sym (l .loop .inv .3 ∙ rows-missing _ _ _ _ (take (2 * (l .loop .i * a .args .n)) (l .loop .t)) (sym (c .before .before .search .ensures .0) ∙ c .enum-told .given .1) (omega arith))
+    sym (l .loop .inv .3 ∙ rows-missing _ _ _ _ (take (2 * (l .loop .i * a .args .n)) (l .loop .t)) (sym (c .before .before .first .ensures .0) ∙ c .enum-told .given .1) (omega arith))
 
 add-i : tie.Need-add-i Inv-loop μ-loop
 add-i c = omega arith
@@ -146,7 +146,7 @@ read-rows-spec =
     μ-loop
     add-i-end
     loop-holds
-    search-requires
+    first-requires
     enum-known-e
     sub-read-values
     part-read-values-start

@@ -5,7 +5,8 @@ use borrow.Author.Needs.{needs}
 use lib.ListN.{length, drop}
 use Rattle.text.specs.Parts.{fields}
 use Rattle.text.specs.Names.{among}
-use Rattle.text.proofs.Parts.{FirstAt, first-at, to-end}
+use Rattle.search.proofs.Answer.{FirstAt, first-at}
+use Rattle.text.proofs.Parts.{to-end}
 use Rattle.text.proofs.Names.{same-is, among-last, among-here, among-go}
 use Rattle.text.proofs.internal.names.is_among.Statement.{statement}
 use Rattle.text.proofs.internal.names.is_among.Tie as tie
@@ -18,13 +19,13 @@ abbrev μ-loop : tie.MeasureT-loop
 
 -- where the search found the end of a part
 found : (k : tie.After-known-told Inv-loop μ-loop) → let l = k .before .before .before .before in FirstAt (l .before .before .before .args .rest .now) (l .loop .at) 59 (k .before .e .given .0 .0)
-found k = first-at (k .before .before .before .search .ensures) (k .before .e .given .1)
+found k = first-at (k .before .before .before .first .ensures) (k .before .e .given .1)
 
 loop-holds : tie.Need-loop-holds Inv-loop μ-loop
 loop-holds c = (omega arith, refl)
 
-search-requires : tie.Need-search-requires Inv-loop μ-loop
-search-requires c κs = tt
+first-requires : tie.Need-first-requires Inv-loop μ-loop
+first-requires c κs = tt
 
 enum-known-e : tie.Need-enum-known-e Inv-loop μ-loop
 enum-known-e c = search needs
@@ -78,7 +79,7 @@ returns-2 : tie.Need-returns-2 Inv-loop μ-loop
 returns-2 c =
     let n = c .before .before in
     let l = n .before .before .before in
-    let f = sym (n .before .before .search .ensures .0) ∙ n .enum-told .given .1 in
+    let f = sym (n .before .before .first .ensures .0) ∙ n .enum-told .given .1 in
     same-is _ _ _ (rw to-end at (c .same2 .ensures)) ∙ sym (among-last _ _ _ f) ∙ l .loop .inv .1
 
 pub is-among-spec : {M : Type 1} → statement M
@@ -88,7 +89,7 @@ is-among-spec =
     Inv-loop
     μ-loop
     loop-holds
-    search-requires
+    first-requires
     enum-known-e
     sub-same
     part-same-start

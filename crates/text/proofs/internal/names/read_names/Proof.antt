@@ -5,11 +5,13 @@ use native.Mathlib.Omega.{arith}
 use borrow.Author.Needs.{needs}
 use borrow.Author.Tests.{not-true, not-false}
 use lib.ListN.{length, take, drop}
-use Rattle.text.specs.declared.internal.search.Found.the-variants.{Nothing}
+use Rattle.search.specs.declared.Found.the-variants.{Nothing}
 use Rattle.text.specs.Parts.{fields}
 use Rattle.text.specs.Names.{isName}
-use Rattle.text.specs.Code.{firstFrom, namesOf}
-use Rattle.text.proofs.Parts.{FirstAt, first-at, to-end}
+use Rattle.search.specs.First.{firstFrom}
+use Rattle.text.specs.Code.{namesOf}
+use Rattle.search.proofs.Answer.{FirstAt, first-at}
+use Rattle.text.proofs.Parts.{to-end}
 use Rattle.text.proofs.Names.{short-to, short-last, counted, counted-all, counted-many, counted-last, counted-wrong, counted-no-name, counted-twice, counted-go}
 use Rattle.text.proofs.internal.names.read_names.Statement.{statement}
 use Rattle.text.proofs.internal.names.read_names.Tie as tie
@@ -23,7 +25,7 @@ abbrev μ-loop : tie.MeasureT-loop
 
 -- where the search found the end of a part
 found : (k : tie.After-known-told Inv-loop μ-loop) → let l = k .before .before .before .before .before in FirstAt (l .before .before .args .line .now) (l .loop .at) 59 (k .before .e .given .0 .0)
-found k = first-at (k .before .before .before .search .ensures) (k .before .e .given .1)
+found k = first-at (k .before .before .before .first .ensures) (k .before .e .given .1)
 
 -- that part is a name
 named : (u : tie.Else1 Inv-loop μ-loop) → isName (take (u .before .before .before .before .e .given .0 .0 - u .before .before .before .before .before .before .before .before .loop .at) (drop (u .before .before .before .before .before .before .before .before .loop .at) (u .before .before .before .before .before .before .before .before .before .before .args .line .now))) ≡ true
@@ -31,13 +33,13 @@ named u = sym (u .before .is-name .ensures) ∙ not-false _ (u .if1 .left)
 
 -- the last part
 ended : (n : tie.After-enum-told Inv-loop μ-loop) → firstFrom (n .before .before .before .before .before .before .args .line .now) (n .before .before .before .before .loop .at) 59 ≡ Nothing
-ended n = sym (n .before .before .search .ensures .0) ∙ n .enum-told .given .1
+ended n = sym (n .before .before .first .ensures .0) ∙ n .enum-told .given .1
 
 loop-holds : tie.Need-loop-holds Inv-loop μ-loop
 loop-holds c = (omega arith, omega arith, counted-all _)
 
-search-requires : tie.Need-search-requires Inv-loop μ-loop
-search-requires c κs = tt
+first-requires : tie.Need-first-requires Inv-loop μ-loop
+first-requires c κs = tt
 
 enum-known-e : tie.Need-enum-known-e Inv-loop μ-loop
 enum-known-e c = search needs
@@ -140,7 +142,7 @@ read-names-spec =
     Inv-loop
     μ-loop
     loop-holds
-    search-requires
+    first-requires
     enum-known-e
     sub-name
     part-name-start

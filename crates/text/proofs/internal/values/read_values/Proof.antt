@@ -11,7 +11,7 @@ use lib.ListN.{length, take, drop}
 use Rattle.text.specs.Parts.{fields}
 use Rattle.text.specs.Number.{value, then, values}
 use Rattle.text.specs.Code.{onlyIf}
-use Rattle.text.proofs.Parts.{FirstAt, first-at}
+use Rattle.search.proofs.Answer.{FirstAt, first-at}
 use Rattle.text.proofs.Values.{line-go, line-out, line-long, line-short, line-last}
 use Rattle.text.proofs.internal.values.read_values.Statement.{statement}
 use Rattle.text.proofs.internal.values.read_values.Tie as tie
@@ -26,7 +26,7 @@ abbrev μ-loop : tie.MeasureT-loop
 
 -- where the search found the end of a part
 found : (k : tie.After-known-told Inv-loop μ-loop) → let l = k .before .before .before .before .before in FirstAt (l .before .before .args .line .now) (l .loop .at) 59 (k .before .e .given .0 .0)
-found k = first-at (k .before .before .before .search .ensures) (k .before .e .given .1)
+found k = first-at (k .before .before .before .first .ensures) (k .before .e .given .1)
 
 sub-i-end : tie.Need-sub-i-end Inv-loop μ-loop
 sub-i-end c = omega arith
@@ -39,8 +39,8 @@ loop-holds c =
     let a = c .before in
     (omega arith, omega arith, refl, start (a .args .t .now) (a .args .p) (a .args .n) (fields (a .args .line .now)))
 
-search-requires : tie.Need-search-requires Inv-loop μ-loop
-search-requires c κs = search needs
+first-requires : tie.Need-first-requires Inv-loop μ-loop
+first-requires c κs = search needs
 
 enum-known-e : tie.Need-enum-known-e Inv-loop μ-loop
 enum-known-e c = search needs
@@ -85,7 +85,7 @@ same-length-2 c = search needs
 returns-2 : tie.Need-returns-2 Inv-loop μ-loop
 returns-2 c =
     let l = c .before .before .before .before in
-    line-short _ _ _ _ (some (take (2 * (l .before .before .args .p + l .loop .i)) (l .loop .t))) (sym (c .before .before .search .ensures .0) ∙ c .enum-told .given .1) (omega arith) ∙ sym (l .loop .inv .3)
+    line-short _ _ _ _ (some (take (2 * (l .before .before .args .p + l .loop .i)) (l .loop .t))) (sym (c .before .before .first .ensures .0) ∙ c .enum-told .given .1) (omega arith) ∙ sym (l .loop .inv .3)
 
 add-i : tie.Need-add-i Inv-loop μ-loop
 add-i c = omega arith
@@ -110,8 +110,8 @@ loop-again c =
           ∙ ap (λ m. then (some (take (2 * m) last)) (values (a .args .n - (l .loop .i + 1)) (fields (drop (k .before .e .given .0 .0 + 1) (a .args .line .now))))) j,
     )
 
-search-requires-2 : tie.Need-search-requires-2 Inv-loop μ-loop
-search-requires-2 c κs = search needs
+first-requires-2 : tie.Need-first-requires-2 Inv-loop μ-loop
+first-requires-2 c κs = search needs
 
 enum-told-2 : tie.Need-enum-told-2 Inv-loop μ-loop
 enum-told-2 c = search needs
@@ -144,7 +144,7 @@ returns-3 : tie.Need-returns-3 Inv-loop μ-loop
 returns-3 c =
     let l = c .before .before .before .before in
     let a = l .before .before in
-    line-long _ _ _ _ (some (take (2 * (a .args .p + l .loop .i)) (l .loop .t))) (sym (c .before .before .search2 .ensures .0) ∙ c .enum-told2 .given .1) (omega arith) ∙ sym (l .loop .inv .3)
+    line-long _ _ _ _ (some (take (2 * (a .args .p + l .loop .i)) (l .loop .t))) (sym (c .before .before .first2 .ensures .0) ∙ c .enum-told2 .given .1) (omega arith) ∙ sym (l .loop .inv .3)
 
 same-length-4 : tie.Need-same-length-4 Inv-loop μ-loop
 same-length-4 c = search needs
@@ -159,7 +159,7 @@ returns-4 c =
     let i : a .args .n - 1 ≡ l .loop .i = omega arith in
     let j : a .args .p + a .args .n ≡ a .args .p + (a .args .n - 1) + 1 = omega arith in
     ap (λ m. onlyIf (v .place-value2 .result) (take (2 * m) last)) j
-    ∙ line-last _ _ _ _ (some (take (2 * (a .args .p + l .loop .i)) (l .loop .t))) (sym (n .before .before .search2 .ensures .0) ∙ n .enum-told3 .given .1) (omega arith)
+    ∙ line-last _ _ _ _ (some (take (2 * (a .args .p + l .loop .i)) (l .loop .t))) (sym (n .before .before .first2 .ensures .0) ∙ n .enum-told3 .given .1) (omega arith)
     (v .place-value2 .ensures ∙ ap (λ m. then (some (take (2 * (a .args .p + m)) (l .loop .t))) (value (take (length (a .args .line .now) - l .loop .at) (drop (l .loop .at) (a .args .line .now))))) i)
     ∙ sym (l .loop .inv .3)
 
@@ -171,7 +171,7 @@ read-values-spec =
     μ-loop
     sub-i-end
     loop-holds
-    search-requires
+    first-requires
     enum-known-e
     sub-place-value
     part-place-value-start
@@ -187,7 +187,7 @@ read-values-spec =
     add-i
     loop-less
     loop-again
-    search-requires-2
+    first-requires-2
     enum-told-2
     enum-told-3
     sub-place-value-2

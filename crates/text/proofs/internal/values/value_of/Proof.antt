@@ -2,17 +2,17 @@ use mathlib.Core.Path.{sym, _∙_}
 use native.Mathlib.Omega.{arith}
 use borrow.Author.Needs.{needs}
 use lib.Seq.{length-take-le}
-use Rattle.text.proofs.Parts.{FirstAt, first-at}
+use Rattle.search.proofs.Answer.{FirstAt, first-at}
 use Rattle.text.proofs.Values.{value-none, value-ends}
 use Rattle.text.proofs.internal.values.value_of.Statement.{statement}
 use Rattle.text.proofs.internal.values.value_of.Tie as tie
 
 -- the ':' stands in the field
 found : (a : tie.After-c) → FirstAt (a .before .before .before .before .args .field .now) 0 58 (a .c .given .0 .0)
-found a = first-at (a .before .before .search .ensures) (a .c .given .1)
+found a = first-at (a .before .before .first .ensures) (a .c .given .1)
 
-search-requires : tie.Need-search-requires
-search-requires c κs = search needs
+first-requires : tie.Need-first-requires
+first-requires c κs = search needs
 
 enum-known-c : tie.Need-enum-known-c
 enum-known-c c = search needs
@@ -52,13 +52,13 @@ returns c =
     value-ends _ _ _ (found d .is) (one .number-of .ensures) (two .number-of2 .ensures) (c .both-ends .ensures)
 
 returns-2 : tie.Need-returns-2
-returns-2 c = value-none _ (sym (c .before .before .search .ensures .0) ∙ c .enum-told .given .1)
+returns-2 c = value-none _ (sym (c .before .before .first .ensures .0) ∙ c .enum-told .given .1)
 
 pub value-of-spec : {M : Type 1} → statement M
 value-of-spec =
     tie.close
     (tie.spec
-    search-requires
+    first-requires
     enum-known-c
     slice-aggregate-number-of
     number-of-requires

@@ -3,10 +3,10 @@ use Prim.Native.Nat.{_-_, _≤_}
 use native.Mathlib.Omega.{arith}
 use borrow.Author.Needs.{needs}
 use lib.ListN.{length}
-use Rattle.text.specs.Code.{firstFrom}
-use Rattle.text.proofs.Parts.{there, not-there, past}
-use Rattle.text.proofs.internal.search.search.Statement.{statement}
-use Rattle.text.proofs.internal.search.search.Tie as tie
+use Rattle.search.specs.First.{firstFrom}
+use Rattle.search.proofs.Turn.{there, not-there, past}
+use Rattle.search.proofs.first_by_bytes.Statement.{statement}
+use Rattle.search.proofs.first_by_bytes.Tie as tie
 
 abbrev Inv-loop : tie.InvT-loop
 Inv-loop s from b i₀ i = (from ≤ i) × (firstFrom s i b ≡ firstFrom s from b)
@@ -37,6 +37,6 @@ loop-again c =
 returns-2 : tie.Need-returns-2 Inv-loop μ-loop
 returns-2 c = (sym (past _ _ _ (c .loop-test .left)) ∙ c .before .loop .inv .1, tt)
 
-pub search-spec : {M : Type 1} → statement M
-search-spec =
+pub first-by-bytes-spec : {M : Type 1} → statement M
+first-by-bytes-spec =
     tie.close (tie.spec Inv-loop μ-loop loop-holds shared-slice-read-if1 returns add-i loop-less loop-again returns-2)

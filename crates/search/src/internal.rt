@@ -1,0 +1,2 @@
+pub mod marks;
+pub mod word;
