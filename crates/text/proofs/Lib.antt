@@ -1,3 +1,4 @@
+pub mod Entered
 pub mod Field
 pub mod Handed
 pub mod Head
@@ -5,6 +6,8 @@ pub mod Lines
 pub mod Spans
 pub mod Names
 pub mod Number
+pub mod Packed
+pub mod Pairs
 pub mod Parts
 pub mod Values
 pub mod Refusal

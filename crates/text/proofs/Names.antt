@@ -1,25 +1,20 @@
--- One turn of each loop over names: over the bytes of a name, over the parts that may repeat it, over the names of a line.
+-- The bytes of a name, one turn of the loop over them, and names that differ.
 use mathlib.Core.Path.{_≡_, refl, sym, _∙_}
-use mathlib.Core.Bool.{Bool, true, false, cond, _&&_, _||_}
-use mathlib.Core.List.{List, [], _∷_}
-use Prim.Native.Nat.{ℕ, suc, _+_, _-_, _≤_, _<_}
+use mathlib.Core.Bool.{Bool, true, false, not, _&&_, _||_}
+use mathlib.Core.List.{List, [], _∷_, _++_}
+use Prim.Native.Nat.{ℕ, _+_, _≤_, _<_}
 use native.Mathlib.Numerals.{add-one}
-use native.Mathlib.Nat.{zero-add}
 use native.Mathlib.Omega.{arith}
-use borrow.Author.Tests.{le-leb, lt-leb, leb-true, eq-eqb, ne-eqb, eqb-true}
+use borrow.Author.Tests.{le-leb, lt-leb, leb-true, leb-false, not-true, eq-eqb, ne-eqb, eqb-true}
 use lib.Dec.{eqb, leb}
-use lib.ListN.{length, getD, take, drop, length-drop, drop-of-length-le}
-use lib.Seq.{drop-cons, length-take-le}
+use lib.ListN.{length, getD, drop, drop-of-length-le}
+use lib.Seq.{drop-cons}
 use Rattle.interval.proofs.Range.{and-both}
-use Rattle.search.specs.declared.Found.the-variants.{At, Nothing}
-use Rattle.text.specs.declared.internal.names.Names.{Names}
-use Rattle.text.specs.declared.internal.names.Names.the-variants.{Count, Faulty}
-use Rattle.text.specs.Parts.{fields}
 use Rattle.text.specs.Number.{isDigit}
-use Rattle.text.specs.Names.{nameByte, allBytes, isName, same, among, eachName, areNames}
-use Rattle.search.specs.First.{firstFrom}
-use Rattle.text.specs.Code.{namesOf}
-use Rattle.text.proofs.Parts.{parts-none, parts-at, parts-some}
+use Rattle.text.specs.Names.{nameByte, allBytes, isName, same, among, eachName}
+
+pub false-not : {A : Type 0} → false ≡ true → A
+false-not e = let z : _≡_ {A = ℕ} 0 1 = cc in absurd (omega arith)
 
 -- ---- the bytes of a name
 within : (lo hi b : ℕ) → lo ≤ b → b ≤ hi → (leb lo b && leb b hi) ≡ true
@@ -53,6 +48,15 @@ module _ (b : ℕ) where
   unfolding nameByte isDigit
   byte-none f g h i = rw (outside 65 90 b f, outside 97 122 b g, outside 48 57 b h, ne-eqb b 45 i)
 
+-- a byte, and not 0
+pub byte-within : (b : ℕ) → nameByte b ≡ true → (1 ≤ b) × (b ≤ 255)
+byte-within b e = go (leb 1 b) refl (leb b 255) refl
+  where
+    go : (t : Bool) → leb 1 b ≡ t → (u : Bool) → leb b 255 ≡ u → (1 ≤ b) × (b ≤ 255)
+    go true f true g = (leb-true 1 b f, leb-true b 255 g)
+    go false f u g = let h = leb-false 1 b f in false-not (byte-none b (λ i. omega arith) (λ i. omega arith) (λ i. omega arith) (λ i. omega arith) ∙ e)
+    go true f false g = let h = leb-false b 255 g in false-not (byte-none b (λ i. omega arith) (λ i. omega arith) (λ i. omega arith) (λ i. omega arith) ∙ e)
+
 module _ (s : List ℕ) where
   pub name-empty : length s < 1 → false ≡ isName s
   unfolding isName
@@ -66,10 +70,11 @@ module _ (s : List ℕ) where
   unfolding isName
   name-fits h k = rw (le-leb 1 (length s) h, le-leb (length s) 16 k)
 
-  name-short : isName s ≡ true → length s ≤ 16
+  pub name-bytes : isName s ≡ true → (length s ≤ 16) × (allBytes s ≡ true)
   unfolding isName
-  name-short e =
-      leb-true (length s) 16 (and-both (leb (length s) 16) (allBytes s) (and-both (leb 1 (length s)) (leb (length s) 16 && allBytes s) e .1) .0)
+  name-bytes e =
+      let h = and-both (leb (length s) 16) (allBytes s) (and-both (leb 1 (length s)) (leb (length s) 16 && allBytes s) e .1) in
+      (leb-true (length s) 16 (h .0), h .1)
 
 module _ (s : List ℕ) (i : ℕ) where
   pub bytes-end : length s ≤ i → allBytes (drop i s) ≡ true
@@ -84,7 +89,7 @@ module _ (s : List ℕ) (i : ℕ) where
   unfolding allBytes
   bytes-out h e = rw (drop-cons s i 0, e)
 
--- ---- a name among parts
+-- ---- names that differ
 same-self : (s : List ℕ) → same s s ≡ true
 unfolding same
 same-self [] = refl
@@ -93,8 +98,8 @@ same-self (a ∷ s) = rw (eq-eqb a a refl) (same-self s)
 same-equal : (s t : List ℕ) → same s t ≡ true → s ≡ t
 unfolding same
 same-equal [] [] e = refl
-same-equal [] (b ∷ t) e = absurd (let z : _≡_ {A = ℕ} 0 1 = cc in omega arith)
-same-equal (a ∷ s) [] e = absurd (let z : _≡_ {A = ℕ} 0 1 = cc in omega arith)
+same-equal [] (b ∷ t) e = false-not e
+same-equal (a ∷ s) [] e = false-not e
 same-equal (a ∷ s) (b ∷ t) e =
     let h = and-both (eqb a b) (same s t) e in
     let p : a ≡ b = eqb-true a b (h .0) in
@@ -110,72 +115,52 @@ same-is false s t h = go (same s t) refl
     go true e = h .1 (same-equal s t e) ∙ sym e
     go false e = sym e
 
-or-no : (t : Bool) → (t || false) ≡ t
-or-no true = refl
-or-no false = refl
+-- it does not matter which of two names comes first
+pub same-flip : (s t : List ℕ) → same s t ≡ same t s
+same-flip s t = same-is (same s t) t s (λ e. sym (same-equal s t e), λ e. rw e (same-self s))
 
--- from a place of what follows a name
-module _ (s name : List ℕ) (at : ℕ) where
-  pub among-last : firstFrom s at 59 ≡ Nothing → among name (fields (drop at s)) ≡ same (drop at s) name
-  unfolding among
-  among-last f = rw (parts-none s at 59 f) (or-no _)
+or-assoc : (t u v : Bool) → ((t || u) || v) ≡ (t || (u || v))
+or-assoc true u v = refl
+or-assoc false u v = refl
 
-  pub among-here : (e : ℕ) → firstFrom s at 59 ≡ At e → same (take (e - at) (drop at s)) name ≡ true → among name (fields (drop at s)) ≡ true
-  unfolding among
-  among-here e f h = rw (parts-at s at 59 e f, h)
+or-yes : (t : Bool) → (t || true) ≡ true
+or-yes true = refl
+or-yes false = refl
 
-  pub among-go : (e : ℕ) → firstFrom s at 59 ≡ At e → same (take (e - at) (drop at s)) name ≡ false → among name (fields (drop at s)) ≡ among name (fields (drop (e + 1) s))
-  unfolding among
-  among-go e f h = rw (parts-at s at 59 e f, h)
+or-both : (t u : Bool) → (t || u) ≡ false → (t ≡ false) × (u ≡ false)
+or-both false u e = (refl, e)
+or-both true u e = false-not (sym e)
 
--- ---- the names of a line
--- what a line is, after n names that differ from each part after them, by the parts that are left
-unfoldable pub counted : (n : ℕ) → List (List ℕ) → Names
-counted n ps = cond (leb (n + length ps) 32 && eachName ps) (Count (n + length ps)) Faulty
-
-and-no : (t : Bool) → (t && false) ≡ false
+pub and-no : (t : Bool) → (t && false) ≡ false
 and-no true = refl
 and-no false = refl
 
-pub counted-all : (l : List ℕ) → counted 0 (fields (drop 0 l)) ≡ namesOf l
-unfolding counted namesOf areNames
-counted-all l = rw zero-add
+among-append : (s : List ℕ) (ps qs : List (List ℕ)) → among s (ps ++ qs) ≡ (among s ps || among s qs)
+unfolding among
+among-append s [] qs = refl
+among-append s (p ∷ ps) qs = rw (among-append s ps qs, or-assoc)
 
-pub counted-many : (n : ℕ) (s : List ℕ) → 32 ≤ n → counted n (fields s) ≡ Faulty
-unfolding counted
-counted-many n s h = rw (lt-leb (n + length (fields s)) 32 (omega (arith, parts-some 59 s)))
+module _ (p : List ℕ) where
+  -- a name more, which is none of those before it
+  pub each-new : (seen : List (List ℕ)) → eachName seen ≡ true → isName p ≡ true → among p seen ≡ false → eachName (seen ++ p ∷ []) ≡ true
+  unfolding eachName among
+  each-new [] e h k = rw h
+  each-new (q ∷ seen) e h k =
+      let f = and-both (isName q) (not (among q seen) && eachName seen) e in
+      let g = and-both (not (among q seen)) (eachName seen) (f .1) in
+      let l = or-both (same q p) (among p seen) k in
+      rw (f .0, among-append q seen (p ∷ []), not-true (among q seen) (g .0), same-flip p q, l .0, each-new seen (g .1) h (l .1))
 
--- a name from a place on: it ends before e, or with the line
-module _ (l : List ℕ) (at : ℕ) where
-  pub short-to : (e : ℕ) → e < length l → isName (take (e - at) (drop at l)) ≡ true → e ≤ at + 16
-  short-to e h k =
-      let d : length (take (e - at) (drop at l)) ≡ e - at = length-take-le (e - at) (drop at l) (rw length-drop (omega arith)) in
-      omega (arith, name-short _ k)
-
-  pub short-last : isName (drop at l) ≡ true → length l ≤ at + 16
-  short-last k = omega (arith, name-short _ k, length-drop at l)
-
--- the part from a place on, after n names
-module _ (l : List ℕ) (n at : ℕ) where
-  pub counted-last : firstFrom l at 59 ≡ Nothing → n < 32 → isName (drop at l) ≡ true → counted n (fields (drop at l)) ≡ Count (n + 1)
-  unfolding counted eachName among
-  counted-last f h e = rw (parts-none l at 59 f, le-leb (n + 1) 32 (omega arith), e)
-
-  pub counted-wrong : firstFrom l at 59 ≡ Nothing → isName (drop at l) ≡ false → counted n (fields (drop at l)) ≡ Faulty
-  unfolding counted eachName
-  counted-wrong f e = rw (parts-none l at 59 f, e, and-no)
-
-  module _ (e : ℕ) (f : firstFrom l at 59 ≡ At e) where
-    pub counted-no-name : isName (take (e - at) (drop at l)) ≡ false → counted n (fields (drop at l)) ≡ Faulty
-    unfolding counted eachName
-    counted-no-name h = rw (parts-at l at 59 e f, h, and-no)
-
-    pub counted-twice : isName (take (e - at) (drop at l)) ≡ true → among (take (e - at) (drop at l)) (fields (drop (e + 1) l)) ≡ true → counted n (fields (drop at l)) ≡ Faulty
-    unfolding counted eachName
-    counted-twice h k = rw (parts-at l at 59 e f, h, k, and-no)
-
-    pub counted-go : isName (take (e - at) (drop at l)) ≡ true → among (take (e - at) (drop at l)) (fields (drop (e + 1) l)) ≡ false → counted n (fields (drop at l)) ≡ counted (n + 1) (fields (drop (e + 1) l))
-    unfolding counted eachName
-    counted-go h k =
-        let d : n + suc (length (fields (drop (e + 1) l))) ≡ n + 1 + length (fields (drop (e + 1) l)) = omega arith in
-        rw (parts-at l at 59 e f, h, k, d)
+  -- no name, or one of those before it
+  pub each-old : (seen ps : List (List ℕ)) → (isName p && not (among p seen)) ≡ false → eachName (seen ++ p ∷ ps) ≡ false
+  unfolding eachName among
+  each-old [] ps k = go (isName p) k
+    where
+      go : (t : Bool) → (t && true) ≡ false → (t && (not (among p ps) && eachName ps)) ≡ false
+      go true e = false-not (sym e)
+      go false e = refl
+  each-old (q ∷ seen) ps k = go (same q p) refl (each-old seen ps)
+    where
+      go : (t : Bool) → same q p ≡ t → ((isName p && not (among p seen)) ≡ false → eachName (seen ++ p ∷ ps) ≡ false) → eachName (q ∷ (seen ++ p ∷ ps)) ≡ false
+      go true e r = rw (among-append q seen (p ∷ ps), same-flip p q, e, or-yes, and-no)
+      go false e r = let f = r (rw e at k) in rw (f, and-no, and-no)

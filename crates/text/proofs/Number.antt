@@ -6,7 +6,7 @@ use mathlib.Core.Option.{Option, none, some, bind}
 use Prim.Native.Nat.{ℕ, zero, suc, _+_, _-_, _*_, _^_, _≤_, _<_}
 use native.Mathlib.Numerals.{add-one}
 use native.Mathlib.Omega.{arith}
-use native.Mathlib.Nat.{pow-suc, pow-le-pow-right}
+use native.Mathlib.Nat.{pow-suc, pow-le-pow-right, mul-le-mul-right}
 use borrow.Author.Tests.{le-leb, lt-leb, leb-true, eq-eqb, ne-eqb}
 use lib.Dec.{leb}
 use lib.IntN.{pos, negℤ, _-ℤ_, +ℤ-idl}
@@ -47,9 +47,9 @@ module _ (s : List ℕ) (i v : ℕ) where
   unfolding digits
   digits-out h e = rw (drop-cons s i 0 h, e)
 
--- ---- i digits make a number below 10 ^ i
-pub power-more : (i v d : ℕ) → v < 10 ^ i → d ≤ 9 → v * 10 + d < 10 ^ (i + 1)
-power-more i v d h k = rw (add-one i, pow-suc 10 i) (omega arith)
+-- ---- i digits to the base b make a number below b ^ i
+pub power-more : (b i v d : ℕ) → v < b ^ i → d < b → v * b + d < b ^ (i + 1)
+power-more b i v d h k = rw (add-one i, pow-suc b i) (omega (arith, mul-le-mul-right b h))
 
 pub power-ten : (i v : ℕ) → i ≤ 10 → v < 10 ^ i → v ≤ 9_999_999_999
 power-ten i v h k = omega (arith, pow-le-pow-right {n = 10} (omega arith) {i = i} {j = 10} h)

@@ -9,8 +9,7 @@ use native.Mathlib.Nat.{sub-zero}
 use borrow.Author.Tests.{eqb-true}
 use lib.Dec.{eqb, leb}
 use lib.IntN.{ℤ}
-use lib.ListN.{length, take, drop, set, length-set}
-use lib.Seq.{take-suc-set}
+use lib.ListN.{length, take, drop}
 use mir.Syntax.{w64}
 use mir.Val.{SFits, toZ, ofZ}
 use mir.ValLaws.{toZ-ofZ}
@@ -24,6 +23,7 @@ use Rattle.text.specs.Parts.{parts, fields}
 use Rattle.text.specs.Number.{isDigit, digits, plain, magnitude, below, number, bothEnds, value, then, values}
 use Rattle.search.specs.First.{firstIn, firstFrom}
 use Rattle.text.specs.Code.{numberOf, pair}
+use Rattle.text.proofs.Pairs.{pair-set}
 use Rattle.text.proofs.Parts.{parts-at, parts-none, parts-some, to-end}
 
 -- ---- a ':' is in no number, so a second one makes a field no value
@@ -94,10 +94,7 @@ ends-kept {g} {h} {lo} {hi} l u e f = rw (toZ-ofZ w64 lo l, toZ-ofZ w64 hi u, e,
 module _ (t : List ℤ) (p : ℕ) (f : List ℕ) where
   take-put : (v : Interval) → 2 * (p + 1) ≤ length t → take (2 * (p + 1)) (put t p v) ≡ take (2 * p) t ++ v .lo ∷ v .hi ∷ []
   unfolding put
-  take-put v h =
-      let d : 2 * (p + 1) ≡ suc (suc (2 * p)) = omega arith in
-      let u : 2 * p + 1 ≡ suc (2 * p) = omega arith in
-      rw (d, u, take-suc-set (set t (2 * p) (v .lo)) (suc (2 * p)) (v .hi) (simp length-set (omega arith)), take-suc-set t (2 * p) (v .lo) (omega arith), append-assoc)
+  take-put v h = pair-set t p (v .lo) (v .hi) h
 
   pub placed : (v : Interval) → 2 * (p + 1) ≤ length t → some (v .lo ∷ v .hi ∷ []) ≡ value f
       → some (take (2 * (p + 1)) (put t p v)) ≡ then (some (take (2 * p) t)) (value f)

@@ -1,6 +1,6 @@
 -- What functions beneath the calls promise each other; no public promise rests on these.
 use mathlib.Core.Path.{_≡_}
-use mathlib.Core.Bool.{Bool, true, false, cond}
+use mathlib.Core.Bool.{Bool, true, false, cond, not, _&&_, _||_}
 use mathlib.Core.List.{List, [], _∷_}
 use mathlib.Core.Option.{Option, none, some, bind}
 use Prim.Native.Nat.{ℕ, _+_, _*_, _≤_, _<_}
@@ -10,6 +10,7 @@ use lib.ListN.{length, take, drop}
 use Rattle.outcome.specs.Run.{Run, done, Returned, ended}
 use Rattle.inputs.specs.Tests.{tested}
 use Rattle.inputs.specs.System.{System, system}
+use Rattle.search.specs.Word.{packed}
 use Rattle.text.specs.declared.internal.names.Names.{Names}
 use Rattle.text.specs.declared.internal.names.Names.the-variants as names
 use Rattle.text.specs.declared.internal.number.Magnitude.{Magnitude}
@@ -26,7 +27,7 @@ use Rattle.text.specs.declared.internal.lines.Rows.the-variants as lines
 use Rattle.text.specs.declared.internal.lines.Reading.{Reading}
 use Rattle.text.specs.declared.internal.lines.Reading.the-variants as whole
 use Rattle.text.specs.Parts.{parts, fields}
-use Rattle.text.specs.Names.{areNames}
+use Rattle.text.specs.Names.{isName, areNames}
 use Rattle.text.specs.Text as text
 use Rattle.text.specs.Text.{Cellar, faulty}
 use Rattle.text.specs.Call.{Lent, room, filled}
@@ -68,6 +69,26 @@ namesOf l = cond (areNames (fields l)) (names.Count (length (fields l))) names.F
 abbrev pub Few : List ℕ → Names → Type 0
 Few l (names.Count n) = (1 ≤ n) × (n ≤ 32) × (length l ≤ 543)
 Few l names.Faulty = Unit
+
+-- ---- names as numbers: a name has 16 bytes at most and no byte 0, so different names have different numbers
+abbrev pub low : List ℕ → ℕ
+low p = packed (take 8 p)
+
+abbrev pub high : List ℕ → ℕ
+high p = packed (take 8 (drop 8 p))
+
+abbrev pub numbers : List ℕ → List ℕ
+numbers p = low p ∷ high p ∷ []
+
+-- whether l and h are the numbers of a name, by the numbers of the names one after the other
+unfoldable pub entered : List ℕ → (l h : ℕ) → Bool
+entered [] l h = false
+entered (a ∷ []) l h = false
+entered (a ∷ (b ∷ cs)) l h = (eqb a l && eqb b h) || entered cs l h
+
+-- a name, and none of those that have the numbers cs
+unfoldable pub isNew : (cs p : List ℕ) → Bool
+isNew cs p = isName p && not (entered cs (low p) (high p))
 
 -- ---- line 1 of a text
 pub record Headed (s : List ℕ) (h : Heading) : Type 0 where

@@ -61,7 +61,7 @@ loop-again : tie.Need-loop-again Inv-loop μ-loop
 loop-again c =
     let l = c .before .before .before in (
       omega arith,
-      power-more _ _ _ (l .before .loop .inv .1) (omega (arith, digit-within _ (told c))),
+      power-more 10 _ _ _ (l .before .loop .inv .1) (omega (arith, digit-within _ (told c))),
       sym (digits-go _ _ _ (l .loop-test .taken) (told c)) ∙ l .before .loop .inv .2,
     )
 
