@@ -1,15 +1,14 @@
 -- A text is refused with 8, and with no other number.
-use mathlib.Core.Path.{_≡_, refl, subst}
-use mathlib.Core.Bool.{cond}
+use mathlib.Core.Path.{_≡_, subst}
 use mathlib.Core.List.{List, [], _∷_}
 use mathlib.Core.Option.{Option, none, some}
-use Prim.Native.Nat.{ℕ, zero, suc, _+_}
+use Prim.Native.Nat.{ℕ, zero, suc}
 use lib.IntN.{ℤ}
 use Rattle.outcome.specs.declared.Outcome.{Outcome}
 use Rattle.outcome.specs.Table.{numberAndPlace}
-use Rattle.outcome.specs.Run.{Run, refused}
+use Rattle.outcome.specs.Run.{refused}
 use Rattle.outcome.proofs.Run.{Refuses, refuses-done, refuses-with, refuses-cond, refuses-then}
-use Rattle.text.specs.Text.{Head, firstLine, head, onLine, before, atEnd, rowsFrom, reading}
+use Rattle.text.specs.Text.{firstLine, head, onLine, before, atEnd, rowsFrom, reading}
 
 abbrev Eight : Outcome → Type 0
 Eight o = numberAndPlace o .number ≡ 8
