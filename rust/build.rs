@@ -21,6 +21,8 @@ fn main() {
     println!("cargo:rerun-if-changed={}", archive.display());
     println!("cargo:rustc-link-search=native={}", directory.display());
     println!("cargo:rustc-link-lib=static=capi");
+    // The outside check takes its second archive from there.
+    println!("cargo:directory={}", directory.display());
 }
 
 fn directory() -> PathBuf {

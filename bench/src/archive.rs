@@ -1,4 +1,4 @@
-//! The archive under test, by its C functions: memory between guards, wrong
+//! The archives under test, by their C functions: memory between guards, wrong
 //! lengths and all.
 
 use crate::case::Slices;
@@ -7,6 +7,11 @@ use crate::side::{Flat, Side};
 use kifwaleb::raw::{self, KifwalebOutcome};
 
 pub struct Archive;
+
+// In the second archive: no call for others.
+extern "C" {
+    fn kifwaleb_first_byte(s: *const u8, length: usize, from: usize, b: u8) -> usize;
+}
 
 impl Side for Archive {
     fn step(&self, operation: Operation, a: Interval, b: Interval) -> Flat {
@@ -47,6 +52,11 @@ impl Side for Archive {
             raw::kifwaleb_report(text.as_mut_ptr(), text.len(), out.as_mut_ptr(), out.len())
         };
         given.into()
+    }
+
+    fn first_byte(&self, bytes: &mut [u8], from: usize, sought: u8) -> usize {
+        // SAFETY: as for `lend`.
+        unsafe { kifwaleb_first_byte(bytes.as_mut_ptr(), bytes.len(), from, sought) }
     }
 }
 

@@ -30,6 +30,8 @@ pub enum Entry {
     Report(usize),
     /// What the program prints, into a slice of this length.
     Print(usize),
+    /// The first such byte of the text, from a place on.
+    Find(usize, u8),
 }
 
 /// The lengths that the slices lent to a reading call must have.
@@ -120,6 +122,7 @@ impl<'a> Rest<'a> {
             "N" => Entry::Name(self.number()),
             "W" => Entry::Report(self.number()),
             "P" => Entry::Print(self.number()),
+            "F" => Entry::Find(self.number(), self.number()),
             _ => panic!("there is no call '{letter}'"),
         }
     }
@@ -178,6 +181,7 @@ fn letter(call: &Entry) -> char {
         Entry::Name(_) => 'N',
         Entry::Report(_) => 'W',
         Entry::Print(_) => 'P',
+        Entry::Find(..) => 'F',
         other => panic!("{other:?} is no call"),
     }
 }
@@ -186,6 +190,7 @@ fn arguments(call: &Entry) -> String {
     match call {
         Entry::Step(_, a, b) => format!(" {} {} {} {}", a.lo, a.hi, b.lo, b.hi),
         Entry::Read(matrix, right_side) => format!(" {matrix} {right_side}"),
+        Entry::Find(from, byte) => format!(" {from} {byte}"),
         Entry::Narrower(Boxes { n, first, second }) => {
             let lengths = format!(" {n} {} {}", first.len(), second.len());
             let [first, second] = [first, second].map(|numbers| joined(numbers));
@@ -287,6 +292,13 @@ fn on_text(call: &Entry, text: &[u8], side: &impl Side) -> String {
         }
         Entry::Report(length) => sheet(text, *length, |text, out| side.report(text, out)),
         Entry::Print(length) => sheet(text, *length, |text, out| reference::print(text, out)),
+        Entry::Find(from, byte) => {
+            let place = side.first_byte(&mut text.to_vec(), *from, *byte);
+            match place == text.len() {
+                true => " none".to_string(),
+                false => format!(" {place}"),
+            }
+        }
         other => panic!("{other:?} is no call on a text"),
     }
 }

@@ -2,7 +2,7 @@
 
 pub const USAGE: &str =
     "usage: differential [pairs=N] [systems=N] [starts=N] [sweeps=N] [boxes=N] [texts=N] \
-     [programs=N] [seed=N]";
+     [searches=N] [programs=N] [seed=N]";
 
 #[derive(Clone, Copy, Debug, PartialEq, Eq)]
 pub struct Plan {
@@ -18,19 +18,22 @@ pub struct Plan {
     pub boxes: u64,
     /// Random texts for the report call.
     pub texts: u64,
+    /// Searches for a byte: at every place alone, then random ones.
+    pub searches: u64,
     /// Texts for the program, edge texts and random ones.
     pub programs: usize,
     pub seed: u64,
 }
 
 impl Plan {
-    const DEFAULT: Plan = Plan {
+    pub const DEFAULT: Plan = Plan {
         pairs: 5_000_000,
         systems: 1_000_000,
         starts: 1_000_000,
         sweeps: 2_000_000,
         boxes: 1_000_000,
         texts: 300_000,
+        searches: 2_000_000,
         programs: 2_000,
         seed: 1,
     };
@@ -46,6 +49,7 @@ impl Plan {
                 ("sweeps", number) => plan.sweeps = number.parse().ok()?,
                 ("boxes", number) => plan.boxes = number.parse().ok()?,
                 ("texts", number) => plan.texts = number.parse().ok()?,
+                ("searches", number) => plan.searches = number.parse().ok()?,
                 ("programs", number) => plan.programs = number.parse().ok()?,
                 ("seed", number) => plan.seed = number.parse().ok()?,
                 _ => return None,
@@ -65,15 +69,19 @@ mod tests {
 
     #[test]
     fn arguments_come_in_any_sequence() {
-        let plan = read("pairs=2 systems=3 sweeps=5 texts=6 programs=7 seed=4 starts=8 boxes=9");
+        let plan = read(
+            "pairs=2 systems=3 sweeps=5 texts=6 programs=7 seed=4 starts=8 boxes=9 searches=10",
+        );
         assert_eq!(
-            read("boxes=9 starts=8 seed=4 programs=7 texts=6 sweeps=5 systems=3 pairs=2"),
+            read(
+                "searches=10 boxes=9 starts=8 seed=4 programs=7 texts=6 sweeps=5 systems=3 pairs=2"
+            ),
             plan
         );
         let plan = plan.unwrap();
         assert_eq!([plan.pairs, plan.systems, plan.sweeps], [2, 3, 5]);
         assert_eq!([plan.texts, plan.programs as u64, plan.seed], [6, 7, 4]);
-        assert_eq!([plan.starts, plan.boxes], [8, 9]);
+        assert_eq!([plan.starts, plan.boxes, plan.searches], [8, 9, 10]);
         assert_eq!(read(""), Some(Plan::DEFAULT));
     }
 

@@ -120,6 +120,9 @@ mod tests {
         fn report(&self, _: &mut [u8], _: &mut [u8]) -> Outcome {
             Outcome::DONE
         }
+        fn first_byte(&self, _: &mut [u8], _: usize, _: u8) -> usize {
+            0
+        }
     }
 
     /// All but the two lines about numbers and names.

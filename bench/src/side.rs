@@ -16,6 +16,8 @@ pub trait Side {
     /// One of the two itself, or an empty part where the first begins.
     fn narrower<'a>(&self, n: usize, first: &'a [i64], second: &'a [i64]) -> &'a [i64];
     fn report(&self, text: &mut [u8], out: &mut [u8]) -> Outcome;
+    /// The place of the first such byte from a place on, or the length if there is none.
+    fn first_byte(&self, bytes: &mut [u8], from: usize, sought: u8) -> usize;
 }
 
 /// The implementation in this package.
@@ -51,5 +53,9 @@ impl Side for Reference {
 
     fn report(&self, text: &mut [u8], out: &mut [u8]) -> Outcome {
         reference::report(text, out)
+    }
+
+    fn first_byte(&self, bytes: &mut [u8], from: usize, sought: u8) -> usize {
+        reference::first_byte(bytes, from, sought).unwrap_or(bytes.len())
     }
 }

@@ -5,10 +5,10 @@
 
 use kifwaleb_bench::case::Case;
 use kifwaleb_bench::case_file::{entries, lines, written, Entry, READ_LENGTHS};
-use kifwaleb_bench::comparison::{Boxes, StartBox};
+use kifwaleb_bench::comparison::{Boxes, Search, StartBox};
 use kifwaleb_bench::generator::{
     boxes_up_to, edge_cases, edge_lists, edge_pairs, edge_texts, random_cases_up_to,
-    random_lists_up_to, random_pairs, random_texts_up_to, starts_up_to, Random,
+    random_lists_up_to, random_pairs, random_texts_up_to, searches, starts_up_to, Random,
 };
 use kifwaleb_bench::reference::{read_text, Call, Interval, Operation, MOST_BYTES, MOST_EQUATIONS};
 use kifwaleb_bench::side::{Reference, Side};
@@ -20,7 +20,7 @@ use std::path::PathBuf;
 use std::{env, fs, io};
 
 /// As many bytes as the program takes in.
-const MOST_CASE_BYTES: usize = 655_360;
+const MOST_CASE_BYTES: usize = 786_432;
 
 const SEED: u64 = 1;
 const FEW_VATS: usize = 4;
@@ -41,6 +41,7 @@ fn main() -> io::Result<()> {
     all.extend(sweeps());
     all.extend(choices());
     all.extend(texts());
+    all.extend(finds());
     let file = written(&all);
     assert!(
         file.len() <= MOST_CASE_BYTES,
@@ -79,10 +80,14 @@ fn chosen(cases: Vec<Vec<Entry>>, of_a_kind: usize, bytes: usize) -> Vec<Entry> 
         .collect()
 }
 
-/// What tells one case from another: how its calls end, and how many vats or
-/// which signs it has.
+/// What tells one case from another: how its calls end, and how many vats, which
+/// signs, or how long a text and which start it has.
 fn kind(entries: &[Entry]) -> String {
     let lines = lines(entries, &Reference);
+    if let [Entry::Text(text), Entry::Find(from, _)] = entries {
+        let none = lines[0].ends_with("none");
+        return format!("{} {} {none}", text.len(), from % 8);
+    }
     match &entries[0] {
         Entry::Text(_) => {
             let sheet = lines[2].trim_end_matches('|').rsplit(['|', ':']);
@@ -199,6 +204,16 @@ fn texts() -> Vec<Entry> {
     let long = some(MOST_BYTES..=MOST_BYTES + 1).step_by(6).take(2);
     all.extend(great.chain(long).flat_map(text_calls));
     all
+}
+
+/// Of the searches with the byte sought at one place and at several.
+fn finds() -> Vec<Entry> {
+    let some = searches(SEED).step_by(31).take(RANDOM);
+    let entries = some.map(|search: Search| {
+        let find = Entry::Find(search.from, search.sought);
+        vec![Entry::Text(search.bytes()), find]
+    });
+    chosen(entries.collect(), 1, 45_000)
 }
 
 fn text_calls(case: TextCase) -> Vec<Entry> {

@@ -1,5 +1,6 @@
 //! What the calls can reach, told more finely than by their outcomes.
 
+use super::searches::LONGEST;
 use super::tally::Goal;
 use crate::reference::{Call, Flaw, Operation, Phase, Stop, TextPart, MOST_EQUATIONS};
 use std::ops::RangeInclusive;
@@ -173,6 +174,26 @@ pub fn of_report() -> Vec<Goal> {
     goals.extend(flaws.map(|flaw| Goal::once(faulty_line(TextPart::Surplus, flaw))));
     goals.extend(refused_systems(Call::EliminateBalance));
     goals
+}
+
+/// A tail is shorter than a word of eight bytes.
+pub fn of_search() -> Vec<Goal> {
+    vec![
+        Goal::at("found, length", 1..=LONGEST),
+        Goal::at("none, length", 0..=LONGEST),
+        Goal::at("found, offset", 0..=7),
+        Goal::at("none, offset", 0..=7),
+        Goal::at("found, off in bit", 0..=7),
+        Goal::at("none, off in bit", 0..=7),
+        Goal::at("found, byte", 0..=255),
+        Goal::at("found, place", 0..=LONGEST - 1),
+        Goal::at("found in a word, at", 0..=7),
+        Goal::at("found in the tail, at", 0..=6),
+        Goal::at("found before one off by -1, 0, 1", 0..=2),
+        Goal::at("none, past the end by 0, 1, more", 0..=2),
+        Goal::once("none but before the start"),
+        Goal::at("none but behind the end, at", 0..=1),
+    ]
 }
 
 pub fn faulty_line(part: TextPart, flaw: Flaw) -> &'static str {

@@ -3,6 +3,7 @@
 mod choices;
 pub mod goals;
 mod lent;
+mod searches;
 mod starts;
 mod steps;
 mod sweeps;
@@ -13,6 +14,7 @@ mod tests;
 mod texts;
 
 pub use choices::Boxes;
+pub use searches::{Memory, Search, LONGEST};
 pub use starts::StartBox;
 pub use steps::Pair;
 pub use systems::Elimination;

@@ -121,6 +121,18 @@ impl Side for Changed {
         byte.into_iter().for_each(|byte| *byte ^= 1);
         self.outcome(outcome)
     }
+
+    fn first_byte(&self, bytes: &mut [u8], from: usize, sought: u8) -> usize {
+        let place = Reference.first_byte(bytes, from, sought);
+        if !self.is_now() {
+            return place;
+        }
+        match self.chosen([bytes, &mut [], &mut []]) {
+            Some(byte) => *byte ^= 1,
+            None => return place + 1,
+        }
+        place
+    }
 }
 
 /// Each change of the answer to each call is noticed; the reference itself is
@@ -155,6 +167,19 @@ fn list(allowed: &[usize]) -> SweepList {
     SweepList::new(lent, allowed)
 }
 
+/// In 5 bytes of which places 1 and 2 hold the byte sought.
+fn search(from: usize) -> Search {
+    let mut memory = Memory([b'-'; Memory::SIZE]);
+    memory.slice(6, 5)[1..3].fill(b';');
+    Search {
+        memory,
+        offset: 6,
+        length: 5,
+        from,
+        sought: b';',
+    }
+}
+
 #[test]
 fn every_number_of_an_answer_is_compared() {
     let one = Interval::point(1_000_000);
@@ -182,6 +207,7 @@ fn every_number_of_an_answer_is_compared() {
     assert_compared(&goals::of_narrower(), &boxes, 0);
     let texts = [INPUT, b"a\n1:0\n0:0\n"].map(|text| TextCase::new(text.to_vec()));
     assert_compared(&goals::of_report(), &texts, 2);
+    assert_compared(&goals::of_search(), &[0, 3].map(search), 1);
 }
 
 #[test]
@@ -245,6 +271,11 @@ fn a_difference_names_what_differs() {
     let text = [TextCase::new(INPUT.to_vec())].into_iter();
     let found = compare(goals::of_report(), text, 1, &side(CHANGES[5])).unwrap_err();
     for part in ["byte 0 of the sheet", "W1;V2\\n", "3000000:4000000"] {
+        assert!(found.contains(part), "{found}");
+    }
+    let one = [search(2)].into_iter();
+    let found = compare(goals::of_search(), one, 1, &side(CHANGES[0])).unwrap_err();
+    for part in ["0x3b from 2 on, in 5", "reference: 2", "archive:   3"] {
         assert!(found.contains(part), "{found}");
     }
 }

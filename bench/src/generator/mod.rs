@@ -4,6 +4,7 @@
 mod choices;
 mod pairs;
 mod random;
+mod searches;
 mod starts;
 mod sweeps;
 mod systems;
@@ -12,7 +13,9 @@ mod texts;
 pub use choices::boxes_up_to;
 pub use pairs::{edge_pairs, random_pairs};
 pub use random::Random;
+pub use searches::searches;
 pub use starts::starts_up_to;
 pub use sweeps::{edge_lists, random_lists, random_lists_up_to, settling};
 pub use systems::{edge_cases, random_cases, random_cases_up_to};
-pub use texts::{edge_texts, long_named_text, random_texts, random_texts_up_to, FAULTY_SPELLINGS};
+pub use texts::{edge_texts, random_texts, random_texts_up_to, FAULTY_SPELLINGS};
+pub use texts::{long_named_text, short_named_text};

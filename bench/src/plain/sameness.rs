@@ -36,6 +36,10 @@ impl Side for Plain {
     fn report(&self, text: &mut [u8], out: &mut [u8]) -> Outcome {
         report(text, out)
     }
+
+    fn first_byte(&self, _: &mut [u8], _: usize, _: u8) -> usize {
+        unimplemented!("no task is a search")
+    }
 }
 
 /// Over everything that the reference can reach.

@@ -8,6 +8,7 @@ mod interval;
 mod narrower;
 mod numbers;
 mod outcome;
+mod search;
 mod sheet;
 mod start_box;
 mod steps;
@@ -22,6 +23,7 @@ pub use interval::{rounded_product, rounded_quotient, Interval, WideInterval, LI
 pub use narrower::{narrower, width};
 pub use numbers::*;
 pub use outcome::{Outcome, Phase, Slice, Stop};
+pub use search::first_byte;
 pub use sheet::{print, report, report_end, sheet, ReportEnd, SHEET_LENGTH, SHEET_SWEEPS};
 pub use start_box::{start_box, started, sums, Sums};
 pub use steps::{difference, product, quotient, step, sum, Operation, Step};

@@ -13,6 +13,7 @@
 //     N vat           the name of a vat: its length and its bytes
 //     W length        its sheet or its refusal, into a slice of this length
 //     P length        what 'balance' prints for it, into a slice of this length
+//     F from byte     the first such byte in it, from a place on, which may lie past its end: its place, or 'none'
 mod boxes;
 mod file;
 mod lines;
@@ -58,7 +59,7 @@ fn main() {
         os::fail(b"cases");
         return;
     }
-    let mut cases = [0u8; 655360];
+    let mut cases = [0u8; 786432];
     let size = io::read_full(fd, &mut cases);
     run_all(&cases[..size]);
 }

@@ -4,6 +4,7 @@ use crate::file::read_head;
 use crate::file::read_natural;
 use crate::file::room;
 use crate::lines;
+use search::Found;
 ghost use mathlib.Core.Path.{_≡_};
 ghost use Prim.Native.Nat.{_≤_};
 ghost use lib.ListN.{length, take};
@@ -11,7 +12,7 @@ ghost use Rattle.io.specs.Counts.{Counts};
 
 fn is_call(letter: u8) -> bool {
     match letter {
-        b'R' | b'N' | b'W' | b'P' => true,
+        b'R' | b'N' | b'W' | b'P' | b'F' => true,
         _ => false,
     }
 }
@@ -103,6 +104,17 @@ fn name(file: &[u8], at: usize, text: &[u8]) -> usize {
     component.at
 }
 
+// The place of a byte in the text, or 'none'.
+fn find(file: &[u8], at: usize, text: &[u8]) -> usize {
+    let from = read_natural(file, at);
+    let sought = read_natural(file, from.at);
+    match search::first(text, from.value as usize, room(sought.value, 255) as u8) {
+        Found::At(place) => lines::natural(place as u64),
+        Found::Nothing => lines::say(b" none"),
+    }
+    sought.at
+}
+
 // How a call with a sheet ended, the count, and what the slice holds up to the last byte that is not as lent.
 fn show_sheet(w: report::Written, out: &mut [u8]) {
     let o = w.outcome;
@@ -141,6 +153,7 @@ fn call(file: &[u8], h: Head, text: &[u8]) -> usize {
     let at = match letter {
         b'R' => read(file, h.at, text),
         b'N' => name(file, h.at, text),
+        b'F' => find(file, h.at, text),
         _ => print(file, h.at, letter, text),
     };
     lines::end();

@@ -6,7 +6,7 @@ use kifwaleb_bench::archive::Archive;
 use kifwaleb_bench::comparison::{compare, goals, Elimination, Goal, Pair, Trial};
 use kifwaleb_bench::generator::{
     boxes_up_to, edge_cases, edge_lists, edge_pairs, edge_texts, random_cases, random_lists,
-    random_pairs, random_texts, starts_up_to,
+    random_pairs, random_texts, searches, starts_up_to,
 };
 use kifwaleb_bench::plan::{Plan, USAGE};
 use kifwaleb_bench::reference::{Call, Operation, MOST_EQUATIONS};
@@ -38,6 +38,7 @@ fn all_hold(plan: &Plan) -> bool {
         && starts_and_choices_hold(plan)
         && sweeps_hold(plan)
         && reports_hold(plan)
+        && searches_hold(plan)
         && program::holds(plan)
 }
 
@@ -115,6 +116,12 @@ fn reports_hold(plan: &Plan) -> bool {
         random,
         plan.texts,
     )
+}
+
+fn searches_hold(plan: &Plan) -> bool {
+    let (goals, searches) = (goals::of_search(), searches(plan.seed));
+    let kind = "random searches";
+    holds("first_byte", kind, goals, searches, plan.searches)
 }
 
 /// Compares one row and prints the difference, or what was reached. True if

@@ -29,6 +29,21 @@ pub fn heavy_row(n: usize) -> Case {
     case
 }
 
+/// As `shares`, but most are 0: all but two of 32 in a row, and three deliveries in
+/// four.
+pub fn noughts(n: usize) -> Case {
+    let mut case = shares(n);
+    for (place, ends) in case.matrix.chunks_exact_mut(2).enumerate() {
+        if (place / n + place % n) % 16 != 0 {
+            ends.fill(0);
+        }
+    }
+    let deliveries = case.right_side.chunks_exact_mut(2).enumerate();
+    let three_in_four = deliveries.filter(|(vat, _)| vat % 4 != 0);
+    three_in_four.for_each(|(_, ends)| ends.fill(0));
+    case
+}
+
 fn dense(n: usize, signed: bool) -> System {
     let mut random = Random::new(n as u64);
     let mut balance = System::noughts(n);

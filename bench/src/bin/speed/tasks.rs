@@ -1,9 +1,11 @@
 //! What is done by both sides.
 
-use crate::balances::{heavy_row, longest, mixed, shares, slow_dense, slow_noughts, with_wide_box};
+use crate::balances::{
+    heavy_row, longest, mixed, noughts, shares, slow_dense, slow_noughts, with_wide_box,
+};
 use kifwaleb_bench::archive::Archive;
 use kifwaleb_bench::case::{Case, Slices};
-use kifwaleb_bench::generator::long_named_text;
+use kifwaleb_bench::generator::{long_named_text, short_named_text};
 use kifwaleb_bench::plain;
 use kifwaleb_bench::reference::{
     Call, Outcome, DONE, FAULTY_ENDS, MOST_SWEEPS, SHEET_LENGTH, SPENT,
@@ -22,7 +24,7 @@ pub enum Side {
 /// What a task is called, and how it is made for so many vats.
 pub type Kind = (&'static str, fn(usize) -> Task);
 
-pub const KINDS: [Kind; 12] = [
+pub const KINDS: [Kind; 13] = [
     ("eliminate-shares", |n| Task::Eliminate(shares(n))),
     ("eliminate-mixed", |n| Task::Eliminate(mixed(n))),
     ("start-shares", |n| Task::Start(shares(n))),
@@ -35,6 +37,9 @@ pub const KINDS: [Kind; 12] = [
     }),
     ("slow-dense", |n| Task::sweep(slow_dense(n), MOST_SWEEPS)),
     ("read-longest", |n| Task::report(&crossed(longest(n)))),
+    ("read-noughts", |n| {
+        Task::on_text(short_named_text(&crossed(noughts(n))))
+    }),
     ("sheet-longest", |n| Task::report(&longest(n))),
     ("sheet-shares", |n| Task::report(&shares(n))),
 ];
@@ -66,10 +71,12 @@ impl Task {
     }
 
     fn report(case: &Case) -> Task {
-        Task::Report {
-            text: long_named_text(case),
-            out: vec![0; SHEET_LENGTH],
-        }
+        Task::on_text(long_named_text(case))
+    }
+
+    fn on_text(text: Vec<u8>) -> Task {
+        let out = vec![0; SHEET_LENGTH];
+        Task::Report { text, out }
     }
 
     pub fn run(&mut self, side: Side, times: usize) {
@@ -183,8 +190,8 @@ mod tests {
         }
     }
 
-    /// The text's length, how the call ended, and the sheet as text.
-    fn reported(kind: &str) -> (usize, Outcome, String) {
+    /// The text, how the call ended, and the sheet as text.
+    fn reported(kind: &str) -> (Vec<u8>, Outcome, String) {
         let found = KINDS.iter().find(|(name, _)| *name == kind);
         let mut task = found.unwrap().1(32);
         let outcome = task.run_once(Side::Theirs);
@@ -192,18 +199,29 @@ mod tests {
             panic!("{kind} is no report");
         };
         let sheet = out[..outcome.count as usize].to_vec();
-        (text.len(), outcome, String::from_utf8(sheet).unwrap())
+        (text, outcome, String::from_utf8(sheet).unwrap())
     }
 
     /// 32 names of 16 bytes and 33 · 32 values of 23, each with the byte after.
     #[test]
     fn the_longest_text_is_read_and_has_a_sheet() {
         let longest = 32 * 17 + 33 * 32 * 24;
-        let (length, outcome, _) = reported("read-longest");
-        assert_eq!((length, outcome), (longest, Outcome::new(3, 0)));
-        let (length, _, sheet) = reported("sheet-longest");
-        assert_eq!(length, longest);
+        let (text, outcome, _) = reported("read-longest");
+        assert_eq!((text.len(), outcome), (longest, Outcome::new(3, 0)));
+        let (text, _, sheet) = reported("sheet-longest");
+        assert_eq!(text.len(), longest);
         assert!(sheet.ends_with("\nsettled 1\n"), "{sheet}");
+    }
+
+    /// 64 shares and 8 deliveries are not.
+    #[test]
+    fn most_values_are_noughts() {
+        let (text, outcome, _) = reported("read-noughts");
+        assert_eq!(outcome, Outcome::new(3, 0));
+        assert!(text.starts_with(b"V1;V2;"));
+        let fields = text.split(|byte| b";\n".contains(byte));
+        let noughts = fields.filter(|field| *field == b"0:0").count();
+        assert_eq!(noughts, 33 * 32 - 64 - 8);
     }
 
     #[test]

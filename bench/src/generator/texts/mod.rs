@@ -22,3 +22,8 @@ use crate::case::Case;
 pub fn long_named_text(case: &Case) -> Vec<u8> {
     draft::Draft::new(names::listed(2, case.n), case).written()
 }
+
+/// The same with the names V1, V2 and so on.
+pub fn short_named_text(case: &Case) -> Vec<u8> {
+    draft::Draft::new(names::listed(0, case.n), case).written()
+}
