@@ -19,8 +19,3 @@ first-at {s} {from} c q = let w = subst (within s from) q (c .1) in record { is 
 
 pub found-not : {A : Type 0} {e : ℕ} → At e ≡ Nothing → A
 found-not e = let z : _≡_ {A = ℕ} 0 1 = cc in absurd (omega arith)
-
--- a place that was found further on
-pub within-wider : (s : List ℕ) (from i : ℕ) (r : Found) → from ≤ i → within s i r → within s from r
-within-wider s from i (At j) h w = (omega (arith, h, w .0), w .1)
-within-wider s from i Nothing h w = tt

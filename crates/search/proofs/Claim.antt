@@ -8,7 +8,7 @@ use native.Mathlib.Omega.{arith}
 use lib.ListN.{length, getD}
 use Rattle.search.specs.declared.Found.{Found}
 use Rattle.search.specs.declared.Found.the-variants.{At, Nothing}
-use Rattle.search.specs.First.{firstFrom}
+use Rattle.search.specs.First.{firstFrom, within}
 use Rattle.search.specs.Claim.{Stands, First, FirstByte}
 use Rattle.search.proofs.Turn.{there, not-there, past}
 
@@ -47,6 +47,14 @@ module _ (s : List ℕ) (b : ℕ) where
 
   said : (from : ℕ) (r : Found) → firstFrom s from b ≡ r → Says from r
   said from r e = subst (Says from) e (says (length s) from (omega arith))
+
+  -- a place that is found lies in s
+  pub first-within : (from : ℕ) → within s from (firstFrom s from b)
+  first-within from = go (firstFrom s from b) refl
+    where
+      go : (r : Found) → firstFrom s from b ≡ r → within s from r
+      go (At e) q = let t = said from (At e) q .stands in (t .not-before, t .inside)
+      go Nothing q = tt
 
   -- there is one first place
   place-of : (from e : ℕ) → First s from b e → (r : Found) → firstFrom s from b ≡ r → firstFrom s from b ≡ At e

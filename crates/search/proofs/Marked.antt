@@ -54,18 +54,19 @@ before-unmarked n m =
 
 -- ---- the search over the d bytes from i on
 module _ (s : List ℕ) (b : ℕ) where
-  -- no mark: none of them is b
-  pub unmarked : (d i : ℕ) → i + d ≤ length s → marksAt s i b d ≡ 0 → firstFrom s i b ≡ firstFrom s (i + d) b
+  -- no mark: none of them is b, nor of the first k of them
+  pub unmarked : (d i k : ℕ) → k ≤ d → i + d ≤ length s → marksAt s i b d ≡ 0 → firstFrom s i b ≡ firstFrom s (i + k) b
   unfolding marksAt
-  unmarked zero i h e = rw (add-zero i)
-  unmarked (suc d) i h e = go (ℕ-discrete (getD s i 0) b) (unmarked d (i + 1))
+  unmarked d i zero l h e = rw (add-zero i)
+  unmarked zero i (suc k) l h e = absurd (omega arith)
+  unmarked (suc d) i (suc k) l h e = go (ℕ-discrete (getD s i 0) b) (unmarked d (i + 1) k)
     where
-      go : Dec (getD s i 0 ≡ b) → (i + 1 + d ≤ length s → marksAt s (i + 1) b d ≡ 0 → firstFrom s (i + 1) b ≡ firstFrom s (i + 1 + d) b) → firstFrom s i b ≡ firstFrom s (i + suc d) b
+      go : Dec (getD s i 0 ≡ b) → (k ≤ d → i + 1 + d ≤ length s → marksAt s (i + 1) b d ≡ 0 → firstFrom s (i + 1) b ≡ firstFrom s (i + 1 + k) b) → firstFrom s i b ≡ firstFrom s (i + suc k) b
       go (yes f) g = absurd (omega (arith, rw (eq-eqb _ _ f) at e))
       go (no f) g =
           let z : marksAt s (i + 1) b d ≡ 0 = omega (arith, rw (ne-eqb _ _ f) at e) in
-          let l : i + 1 + d ≡ i + suc d = omega arith in
-          not-there s b i (omega arith) f ∙ g (omega arith) z ∙ ap (λ j. firstFrom s j b) l
+          let m : i + 1 + k ≡ i + suc k = omega arith in
+          not-there s b i (omega arith) f ∙ g (omega arith) (omega arith) z ∙ ap (λ j. firstFrom s j b) m
 
   -- a mark: the first of them is where b first stands
   pub marked : (d i : ℕ) → i + d ≤ length s → marksAt s i b d ≢ 0 → (firstFrom s i b ≡ At (i + before d (marksAt s i b d))) × (before d (marksAt s i b d) < d)

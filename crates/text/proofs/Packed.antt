@@ -10,7 +10,7 @@ use lib.Dec.{eqb}
 use lib.ListN.{length, getD, take, drop, length-take, length-drop, drop-of-length-le}
 use lib.Seq.{drop-cons, getD-take, getD-drop, take-all, take-add}
 use Rattle.interval.proofs.Range.{and-both}
-use Rattle.search.specs.Word.{packed}
+use Rattle.search.specs.Word.{packed, wordAt}
 use Rattle.text.specs.Names.{nameByte, allBytes, isName, same, among, eachName}
 use Rattle.text.specs.Code.{low, high, numbers, entered}
 use Rattle.text.proofs.Names.{byte-within, name-bytes, same-is}
@@ -41,7 +41,8 @@ module _ (s : List ℕ) (from i w : ℕ) where
         getD-drop from s (i - 1 - from) 0,
       )
 
-  pub pack-end : i ≤ from → w ≡ packed (drop (i - from) (take 8 (drop from s))) → w ≡ packed (take 8 (drop from s))
+  pub pack-end : i ≤ from → w ≡ packed (drop (i - from) (take 8 (drop from s))) → w ≡ wordAt s from 8
+  unfolding wordAt
   pack-end h e = let d : i - from ≡ 0 = omega arith in rw d at e
 
 -- fewer than eight bytes leave room for one more
@@ -102,6 +103,7 @@ sixteen s h = sym (take-add 8 8 s) ∙ take-all 16 s h
 
 -- two names have the same numbers exactly if they are the same
 same-numbers : (p q : List ℕ) → isName p ≡ true → isName q ≡ true → (eqb (low p) (low q) && eqb (high p) (high q)) ≡ same p q
+unfolding wordAt
 same-numbers p q h k = same-is (eqb (low p) (low q) && eqb (high p) (high q)) p q (equal, λ e. rw (e, eq-eqb (low q) (low q) refl, eq-eqb (high q) (high q) refl))
   where
     a : (length p ≤ 16) × (allBytes p ≡ true)

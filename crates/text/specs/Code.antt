@@ -10,7 +10,7 @@ use lib.ListN.{length, take, drop}
 use Rattle.outcome.specs.Run.{Run, done, Returned, ended}
 use Rattle.inputs.specs.Tests.{tested}
 use Rattle.inputs.specs.System.{System, system}
-use Rattle.search.specs.Word.{packed}
+use Rattle.search.specs.Word.{wordAt}
 use Rattle.text.specs.declared.internal.names.Names.{Names}
 use Rattle.text.specs.declared.internal.names.Names.the-variants as names
 use Rattle.text.specs.declared.internal.number.Magnitude.{Magnitude}
@@ -70,12 +70,12 @@ abbrev pub Few : List ℕ → Names → Type 0
 Few l (names.Count n) = (1 ≤ n) × (n ≤ 32) × (length l ≤ 543)
 Few l names.Faulty = Unit
 
--- ---- names as numbers: a name has 16 bytes at most and no byte 0, so different names have different numbers
+-- ---- names as numbers, the first eight bytes and the others: a name has 16 bytes at most and no byte 0, so different names have different numbers
 abbrev pub low : List ℕ → ℕ
-low p = packed (take 8 p)
+low p = wordAt p 0 8
 
 abbrev pub high : List ℕ → ℕ
-high p = packed (take 8 (drop 8 p))
+high p = wordAt p 8 8
 
 abbrev pub numbers : List ℕ → List ℕ
 numbers p = low p ∷ high p ∷ []

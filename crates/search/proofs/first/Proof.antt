@@ -1,13 +1,13 @@
-use mathlib.Core.Path.{_≡_, refl, sym, _∙_}
+use mathlib.Core.Path.{_≡_, refl, sym, subst, _∙_}
 use Prim.Native.Nat.{_+_, _-_, _≤_, _<_}
 use native.Mathlib.Omega.{arith}
 use borrow.Author.Needs.{needs}
 use lib.Count.{trailing-le}
 use lib.ListN.{length}
 use Rattle.search.specs.declared.Found.the-variants.{At}
-use Rattle.search.specs.First.{firstFrom}
+use Rattle.search.specs.First.{firstFrom, within}
 use Rattle.search.proofs.Turn.{past}
-use Rattle.search.proofs.Answer.{within-wider}
+use Rattle.search.proofs.Claim.{first-within}
 use Rattle.search.proofs.Marked.{before, unmarked, marked}
 use Rattle.search.proofs.first.Statement.{statement}
 use Rattle.search.proofs.first.Tie as tie
@@ -64,7 +64,7 @@ loop-again c =
     let l = c .before .before .before in
     let a = l .before .before .before .args in
     let t : l .loop .i + 8 ≤ length (a .s .now) = omega (arith, c .before .before .loop-test .taken, l .loop .inv .1) in
-    (omega (arith, l .loop .inv .0), t, sym (unmarked (a .s .now) (a .b) 8 (l .loop .i) t (sym (c .before .marks .ensures) ∙ none c)) ∙ l .loop .inv .2)
+    (omega (arith, l .loop .inv .0), omega (arith, t), sym (unmarked (a .s .now) (a .b) 8 (l .loop .i) _ (omega arith) t (sym (c .before .marks .ensures) ∙ none c)) ∙ l .loop .inv .2)
 
 first-by-bytes-requires : tie.Need-first-by-bytes-requires Inv-loop μ-loop
 first-by-bytes-requires c κs = search needs
@@ -73,7 +73,8 @@ returns-3 : tie.Need-returns-3 Inv-loop μ-loop
 returns-3 c =
     let l = c .before .before in
     let a = l .before .before .before .args in
-    (c .first-by-bytes .ensures .0 ∙ l .loop .inv .2, within-wider (a .s .now) (a .from) (l .loop .i) (c .first-by-bytes .result) (l .loop .inv .0) (c .first-by-bytes .ensures .1))
+    let e : c .first-by-bytes .result ≡ firstFrom (a .s .now) (a .from) (a .b) = cc (c .first-by-bytes .ensures .0, l .loop .inv .2) in
+    (e, subst (within (a .s .now) (a .from)) (sym e) (first-within (a .s .now) (a .b) (a .from)))
 
 pub first-spec : {M : Type 1} → statement M
 first-spec =

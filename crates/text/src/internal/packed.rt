@@ -1,13 +1,12 @@
 ghost use mathlib.Core.Path.{_≡_};
 ghost use Prim.Native.Nat.{_≤_};
-ghost use lib.ListN.{take, drop};
-ghost use Rattle.search.specs.Word.{packed};
+ghost use Rattle.search.specs.Word.{wordAt};
 ghost use Rattle.text.specs.Code.{entered};
 
-// At most eight bytes from a place on as a number, the first byte lowest: so the last is read first.
+// The eight bytes from a place on, or as many as there are, as a number, the first lowest: so the last is read first.
 pub fn pack(s: &[u8], from: usize) -> u64
     requires { ⌜ from ≤ 8 ⌝ }
-    ensures { λ r. ⌜ r ≡ packed (take 8 (drop from (now (s .entry)))) ⌝ }
+    ensures { λ r. ⌜ r ≡ wordAt (now (s .entry)) from 8 ⌝ }
 {
     let mut w: u64 = 0;
     let mut i = s.len();
