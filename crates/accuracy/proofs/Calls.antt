@@ -18,7 +18,7 @@ use Rattle.rows.specs.Sum.{singly}
 use Rattle.rows.proofs.Enclosed.{singly-encloses}
 use Rattle.sweep.specs.Pass.{differ}
 use Rattle.sweep.specs.Call.{Log, stopped, settled, spent, swept, after, sweeps, ending, last, concluded, tests}
-use Rattle.sweep.specs.Calls.{Call, sweepCall, run, call, Change, sweepChanges, sweepsOf, changes, anyEmpty}
+use Rattle.sweep.specs.Calls.{Call, sweepCall, runBy, run, callBy, call, Change, sweepChanges, sweepsOf, changesBy, changes, anyEmptyBy, anyEmpty}
 use Rattle.sweep.proofs.Tests as sweep
 use Rattle.sweep.proofs.Kept.{refused-not-empty}
 use Rattle.accuracy.specs.Claim.{Every}
@@ -82,7 +82,7 @@ module _ (s : System) where
       go (Fail o) e = refused-not-empty s k X e
 
   pub on-run : (c : Call) (X : List ℤ) → OnRun X (run s c X)
-  unfolding run
+  unfolding runBy
   on-run (sweepCall k) X = on-call (sweep-faithful singly singly-encloses s) k X
 
   -- ---- the boxes of a list that began with X₀: each follows from X₀ and from the one before it
@@ -114,7 +114,7 @@ module _ (s : System) where
 
   -- ---- what a call leaves, and what it says
   call-follows : (c : Call) (X : List ℤ) → Follows s X (call s c X .left)
-  unfolding call ended
+  unfolding callBy ended
   call-follows c X = go (run s c X) (on-run c X)
     where
       go : (a : Run Log) → OnRun X a → Follows s X (ended (concluded X) X a .left)
@@ -122,7 +122,7 @@ module _ (s : System) where
       go (done l) h = log-last l (follows-refl s X) (h .1)
 
   call-empty : {X₀ : List ℤ} (c : Call) (X : List ℤ) → Follows s X₀ X → T (eqb (call s c X .number) 7) → NoSolution s X₀
-  unfolding call ended
+  unfolding callBy ended
   call-empty {X₀} c X f = go (run s c X) (on-run c X)
     where
       go : (a : Run Log) → OnRun X a → T (eqb (ended (concluded X) X a .number) 7) → NoSolution s X₀
@@ -131,7 +131,7 @@ module _ (s : System) where
 
   -- ---- a list of calls, from any box that follows X₀
   pub list-changes : (cs : List Call) {X₀ X : List ℤ} → Follows s X₀ X → Every (Fine X₀) (changes s cs X)
-  unfolding changes
+  unfolding changesBy
   list-changes [] f = tt
   list-changes (c ∷ cs) {X₀} {X} f =
       let g = call-follows c X in
@@ -139,6 +139,6 @@ module _ (s : System) where
       every-append (Fine X₀) (sweepsOf (run s c X) X) _ (run-changes (run s c X) f (on-run c X)) (record { since-start = k; this-step = g }, list-changes cs k)
 
   pub list-empty : (cs : List Call) {X₀ X : List ℤ} → Follows s X₀ X → T (anyEmpty s cs X) → NoSolution s X₀
-  unfolding anyEmpty
+  unfolding anyEmptyBy
   list-empty [] f e = absurd e
   list-empty (c ∷ cs) {X₀} {X} f e = either (eqb (call s c X .number) 7) _ e (call-empty c X f) (list-empty cs (follows-trans s f (call-follows c X)))

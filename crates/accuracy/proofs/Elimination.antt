@@ -69,7 +69,7 @@ module _ (sum : RowSum) (encloses : Encloses sum) (s : System) (t X : List ℤ) 
       }
 
 -- the call over A and f: the list holds A, which is I − (I − A)
-pub over-A : (s : System) (l : ℕ) (X : List ℤ) → runA lowestRow s l ≡ done X → (x : ℕ → Fraction) → Solution (balanceOf s) x → InBox (s .size) X x
+pub over-A : (s : System) (l : ℕ) (X : List ℤ) → runA lowestRow singly s l ≡ done X → (x : ℕ → Fraction) → Solution (balanceOf s) x → InBox (s .size) X x
 unfolding runA balanceOf
 over-A s l X e =
     let a = tested-done (tests s l) _ X e in
@@ -80,7 +80,7 @@ over-A s l X e =
     (copied-right s m (r .fitting .right))
 
 -- the call over B and b: I − B is formed first
-pub over-B : (s : System) (l : ℕ) (X : List ℤ) → runB lowestRow s l ≡ done X → (x : ℕ → Fraction) → Solution s x → InBox (s .size) X x
+pub over-B : (s : System) (l : ℕ) (X : List ℤ) → runB lowestRow singly s l ≡ done X → (x : ℕ → Fraction) → Solution s x → InBox (s .size) X x
 unfolding runB
 over-B s l X e =
     let a = tested-done (tests s l) _ X e in

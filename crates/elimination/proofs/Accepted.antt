@@ -10,9 +10,9 @@ use Rattle.outcome.proofs.Run.{refuses-then}
 use Rattle.inputs.specs.System.{System}
 use Rattle.inputs.proofs.Early.{early-tests}
 use Rattle.inputs.proofs.Accepted.{Refusal, Stops, refuses-tested, to-end, not-spent}
-use Rattle.rows.specs.Sum.{RowSum}
+use Rattle.rows.specs.Sum.{RowSum, singly}
 use Rattle.forward.specs.Pivot.{lowestRow}
-use Rattle.elimination.specs.Call.{solved, runA, runB, overA, overB}
+use Rattle.elimination.specs.Call.{solved, runA, runB, endedA, endedB, overB}
 use Rattle.elimination.proofs.Refused.{refuses-formedRows, refuses-solved}
 
 six : (row : ℕ) → Refusal (outcome.OutOfRange row)
@@ -24,18 +24,18 @@ five pivot = refl
 stops-solved : (sum : RowSum) (n : ℕ) (t : List ℤ) → Stops (solved lowestRow sum n t)
 stops-solved = refuses-solved Refusal six five
 
-stops-B : (s : System) (l : ℕ) → Stops (runB lowestRow s l)
+stops-B : (sum : RowSum) (s : System) (l : ℕ) → Stops (runB lowestRow sum s l)
 unfolding runB
-stops-B s l = search (refuses-tested, early-tests, refuses-then, refuses-formedRows Refusal six, stops-solved)
+stops-B sum s l = search (refuses-tested, early-tests, refuses-then, refuses-formedRows Refusal six, stops-solved)
 
 -- 9 is said by sweeps alone
 pub never-spent-B : (s : System) (lent : List ℤ) → overB s lent .number ≡ 9 → ⊥
-never-spent-B s lent = not-spent (runB lowestRow s (length lent)) lent (stops-B s (length lent))
+never-spent-B s lent = not-spent (runB lowestRow singly s (length lent)) lent (stops-B singly s (length lent))
 
-module _ (s : System) (lent : List ℤ) {x : List ℤ} where
-  pub accepted-A : overA s lent .number ≡ 0 → x ≡ overA s lent .left → runA lowestRow s (length lent) ≡ done x
+module _ (sum : RowSum) (s : System) (lent : List ℤ) {x : List ℤ} where
+  pub accepted-A : endedA lowestRow sum s lent .number ≡ 0 → x ≡ endedA lowestRow sum s lent .left → runA lowestRow sum s (length lent) ≡ done x
   unfolding runA
-  accepted-A = to-end (runA lowestRow s (length lent)) lent (search (refuses-tested, early-tests, stops-solved))
+  accepted-A = to-end (runA lowestRow sum s (length lent)) lent (search (refuses-tested, early-tests, stops-solved))
 
-  pub accepted-B : overB s lent .number ≡ 0 → x ≡ overB s lent .left → runB lowestRow s (length lent) ≡ done x
-  accepted-B = to-end (runB lowestRow s (length lent)) lent (stops-B s (length lent))
+  pub accepted-B : endedB lowestRow sum s lent .number ≡ 0 → x ≡ endedB lowestRow sum s lent .left → runB lowestRow sum s (length lent) ≡ done x
+  accepted-B = to-end (runB lowestRow sum s (length lent)) lent (stops-B sum s (length lent))

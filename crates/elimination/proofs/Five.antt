@@ -17,7 +17,7 @@ use Rattle.inputs.specs.Place.{at, cell}
 use Rattle.inputs.specs.Tests.{tested}
 use Rattle.inputs.specs.System.{tests}
 use Rattle.inputs.proofs.Early.{Early, early-number, early-tests}
-use Rattle.rows.specs.Sum.{singly}
+use Rattle.rows.specs.Sum.{RowSum}
 use Rattle.forward.specs.Pivot.{lowestRow, swapped}
 use Rattle.forward.specs.Forward.{Table, table, taking, rows, pivots, forward}
 use Rattle.forward.specs.Formed.{formedRows}
@@ -103,7 +103,7 @@ stops n (suc c) d j s left o e f =
     rw a (taken-on n (c + suc d) j s (rw (x .chosen)) (x .below) ∙ stops n c d (j + 1) _ left o (x .rest) (rw z at f))
 
 -- ---- the calculation
-module _ (n : ℕ) (t : List ℤ) where
+module _ (sum : RowSum) (n : ℕ) (t : List ℤ) where
   no-row : (o : Outcome) (k : ℕ) → numberAndPlace o .place ≡ k + 1 → Stopped n n 0 (table t noneTaken) o → NoRow n k t
   no-row o k p x =
       let z : 0 + x .count ≡ x .count = omega arith in
@@ -114,15 +114,15 @@ module _ (n : ℕ) (t : List ℤ) where
       let r : NoRow n (x .count) t = record { below = x .below; left = x .left; reached = x .reached; each = five n (x .count) (x .left .numbers) (x .below) .0 (f ∙ ap refused g) } in
       subst (λ k. NoRow n k t) c r
 
-  solved-five : (o : Outcome) (k : ℕ) → numberAndPlace o .number ≡ 5 → numberAndPlace o .place ≡ k + 1 → solved lowestRow singly n t ≡ refused o → NoRow n k t
+  solved-five : (o : Outcome) (k : ℕ) → numberAndPlace o .number ≡ 5 → numberAndPlace o .place ≡ k + 1 → solved lowestRow sum n t ≡ refused o → NoRow n k t
   unfolding solved forward andThen
   solved-five o k h p e = go (pivots lowestRow n n 0 (table t noneTaken)) refl e
     where
-      go : (r : Run Table) → pivots lowestRow n n 0 (table t noneTaken) ≡ r → andThen r (λ s. andThen (back singly n n (s .numbers)) (λ t₁. done (box n t₁))) ≡ refused o → NoRow n k t
+      go : (r : Run Table) → pivots lowestRow n n 0 (table t noneTaken) ≡ r → andThen r (λ s. andThen (back sum n n (s .numbers)) (λ t₁. done (box n t₁))) ≡ refused o → NoRow n k t
       go (refused q) f g = no-row o k p (stopped-at n n 0 (table t noneTaken) o h (f ∙ ap refused (refused-same g)))
-      go (done s) f g = not-refused (onward (back singly n n (s .numbers)) _ o (refuses-back Other six singly n n (s .numbers)) h g .rest)
+      go (done s) f g = not-refused (onward (back sum n n (s .numbers)) _ o (refuses-back Other six sum n n (s .numbers)) h g .rest)
 
-  five-solved : (k : ℕ) → NoRow n k t → solved lowestRow singly n t ≡ refused (outcome.ContainsZero (k + 1))
+  five-solved : (k : ℕ) → NoRow n k t → solved lowestRow sum n t ≡ refused (outcome.ContainsZero (k + 1))
   unfolding solved forward andThen
   five-solved k x =
       let z : 0 + k ≡ k = omega arith in
@@ -159,19 +159,19 @@ pub five-exactly : FiveExactly
 unfolding runA runB tested andThen
 five-exactly =
     record {
-      from-A = λ s x k. (
+      from-A = λ sum s x k. (
         (λ h.
-            let c = said (runA lowestRow s (length x)) x k h in
+            let c = said (runA lowestRow sum s (length x)) x k h in
             let e = tested-five (tests s (length x)) _ (c .outcome) (early-tests s (length x)) (c .number) (c .is) in
-            (e .0, solved-five (s .size) (copied s) (c .outcome) k (c .number) (c .place) (e .1))),
-        (λ h. say (runA lowestRow s (length x)) x k (rw (h .0) (five-solved (s .size) (copied s) k (h .1)))),
+            (e .0, solved-five sum (s .size) (copied s) (c .outcome) k (c .number) (c .place) (e .1))),
+        (λ h. say (runA lowestRow sum s (length x)) x k (rw (h .0) (five-solved sum (s .size) (copied s) k (h .1)))),
       );
-      from-B = λ s x k. (
+      from-B = λ sum s x k. (
         (λ h.
-            let c = said (runB lowestRow s (length x)) x k h in
+            let c = said (runB lowestRow sum s (length x)) x k h in
             let e = tested-five (tests s (length x)) _ (c .outcome) (early-tests s (length x)) (c .number) (c .is) in
             let f = onward (formedRows (s .size) (s .size) 0 (copied s)) _ (c .outcome) (refuses-formedRows Other six _ _ _ _) (c .number) (e .1) in
-            (e .0, record { formed = f .mid; forms = f .first; noRow = solved-five (s .size) (f .mid) (c .outcome) k (c .number) (c .place) (f .rest) })),
-        (λ h. say (runB lowestRow s (length x)) x k (rw (h .0, h .1 .forms) (five-solved (s .size) (h .1 .formed) k (h .1 .noRow)))),
+            (e .0, record { formed = f .mid; forms = f .first; noRow = solved-five sum (s .size) (f .mid) (c .outcome) k (c .number) (c .place) (f .rest) })),
+        (λ h. say (runB lowestRow sum s (length x)) x k (rw (h .0, h .1 .forms) (five-solved sum (s .size) (h .1 .formed) k (h .1 .noRow)))),
       );
     }

@@ -17,7 +17,7 @@ use Rattle.inputs.specs.declared.Test.the-variants.{Pass, Fail}
 use Rattle.inputs.specs.Place.{at, cell}
 use Rattle.inputs.specs.Tests.{tested}
 use Rattle.inputs.specs.System.{tests}
-use Rattle.rows.specs.Sum.{RowSum, singly}
+use Rattle.rows.specs.Sum.{RowSum}
 use Rattle.forward.specs.Pivot.{lowestRow, inPlace, swapped}
 use Rattle.forward.specs.Forward.{Table, table, taking, rows, pivots, forward}
 use Rattle.forward.specs.Formed.{formedRows}
@@ -85,12 +85,12 @@ pub same-unless-five : SameUnlessFive
 unfolding runA runB
 same-unless-five =
     record {
-      from-A = λ s x h.
+      from-A = λ sum s x h.
           ap (ended written x)
-          (tested-same (tests s (length x)) _ _ (solved-same singly (s .size) (copied s)) (other-call (runA inPlace s (length x)) x h));
-      from-B = λ s x h.
+          (tested-same (tests s (length x)) _ _ (solved-same sum (s .size) (copied s)) (other-call (runA inPlace sum s (length x)) x h));
+      from-B = λ sum s x h.
           ap (ended written x)
           (tested-same (tests s (length x)) _ _
-          (alike (formedRows (s .size) (s .size) 0 (copied s)) _ _ (λ t u. solved-same singly (s .size) t u))
-          (other-call (runB inPlace s (length x)) x h));
+          (alike (formedRows (s .size) (s .size) 0 (copied s)) _ _ (λ t u. solved-same sum (s .size) t u))
+          (other-call (runB inPlace sum s (length x)) x h));
     }

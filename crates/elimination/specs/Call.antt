@@ -27,23 +27,24 @@ noneTaken = replicate 32 (pos 0)
 unfoldable pub solved : Pivoting → RowSum → (n : ℕ) → List ℤ → Run (List ℤ)
 solved p sum n t = andThen (forward p n (table t noneTaken)) (λ s. andThen (back sum n n (s .numbers)) (λ t₁. done (box n t₁)))
 
--- the runs over A and f, and over B and b. 'Neither reads what its lent box holds': they are given its length
-unfoldable pub runA : Pivoting → System → (boxLength : ℕ) → Run (List ℤ)
-runA p s l = tested (tests s l) (solved p singly (s .size) (copied s))
+-- the runs over A and f, and over B and b, with the pivoting and the row sum that are given. 'Neither reads what its lent box holds':
+-- they are given its length
+unfoldable pub runA : Pivoting → RowSum → System → (boxLength : ℕ) → Run (List ℤ)
+runA p sum s l = tested (tests s l) (solved p sum (s .size) (copied s))
 
-unfoldable pub runB : Pivoting → System → (boxLength : ℕ) → Run (List ℤ)
-runB p s l = tested (tests s l) (andThen (formedRows (s .size) (s .size) 0 (copied s)) (λ t. solved p singly (s .size) t))
+unfoldable pub runB : Pivoting → RowSum → System → (boxLength : ℕ) → Run (List ℤ)
+runB p sum s l = tested (tests s l) (andThen (formedRows (s .size) (s .size) 0 (copied s)) (λ t. solved p sum (s .size) t))
 
 -- what they return, and what they leave in the lent box: 'writes the box only when all is done'; document 01 has no count for an elimination, it is 0
-abbrev pub endedA : Pivoting → System → (box : List ℤ) → Returned (List ℤ)
-endedA p s X = ended written X (runA p s (length X))
+abbrev pub endedA : Pivoting → RowSum → System → (box : List ℤ) → Returned (List ℤ)
+endedA p sum s X = ended written X (runA p sum s (length X))
 
-abbrev pub endedB : Pivoting → System → (box : List ℤ) → Returned (List ℤ)
-endedB p s X = ended written X (runB p s (length X))
+abbrev pub endedB : Pivoting → RowSum → System → (box : List ℤ) → Returned (List ℤ)
+endedB p sum s X = ended written X (runB p sum s (length X))
 
 -- the two calls
 abbrev pub overA : System → (box : List ℤ) → Returned (List ℤ)
-overA = endedA lowestRow
+overA = endedA lowestRow singly
 
 abbrev pub overB : System → (box : List ℤ) → Returned (List ℤ)
-overB = endedB lowestRow
+overB = endedB lowestRow singly

@@ -11,10 +11,11 @@ use Rattle.interval.specs.Interval.{containsZero}
 use Rattle.inputs.specs.declared.Test.the-variants.{Pass}
 use Rattle.inputs.specs.Place.{at, cell}
 use Rattle.inputs.specs.System.{System, tests}
+use Rattle.rows.specs.Sum.{RowSum}
 use Rattle.forward.specs.Pivot.{lowestRow, inPlace}
 use Rattle.forward.specs.Forward.{Table, table, pivots}
 use Rattle.forward.specs.Formed.{formedRows}
-use Rattle.elimination.specs.Call.{copied, noneTaken, endedA, endedB, overA, overB}
+use Rattle.elimination.specs.Call.{copied, noneTaken, endedA, endedB}
 
 -- ---- 'Refusal 5 is now given exactly if no such row exists'
 -- the steps before step k go to their end, and in what they leave every row from k on contains 0 in column k
@@ -34,11 +35,20 @@ pub record NoRowOfB (s : System) (k : ℕ) : Type 0 where
 abbrev pub Five : Returned (List ℤ) → (k : ℕ) → Type 0
 Five r k = (r .number ≡ 5) × (r .place ≡ k + 1)
 
+-- whatever the row sum is
 pub record FiveExactly : Type 0 where
-  pub from-A : (s : System) (box : List ℤ) (k : ℕ) → Five (overA s box) k ↔ ((tests s (length box) ≡ Pass) × NoRow (s .size) k (copied s))
-  pub from-B : (s : System) (box : List ℤ) (k : ℕ) → Five (overB s box) k ↔ ((tests s (length box) ≡ Pass) × NoRowOfB s k)
+  pub from-A :
+      (sum : RowSum) (s : System) (box : List ℤ) (k : ℕ)
+      → Five (endedA lowestRow sum s box) k ↔ ((tests s (length box) ≡ Pass) × NoRow (s .size) k (copied s))
+  pub from-B :
+      (sum : RowSum) (s : System) (box : List ℤ) (k : ℕ)
+      → Five (endedB lowestRow sum s box) k ↔ ((tests s (length box) ≡ Pass) × NoRowOfB s k)
 
 -- ---- 'A balance accepted before gets the same box': all is as before, unless 5 was said before
 pub record SameUnlessFive : Type 0 where
-  pub from-A : (s : System) (box : List ℤ) → endedA inPlace s box .number ≢ 5 → overA s box ≡ endedA inPlace s box
-  pub from-B : (s : System) (box : List ℤ) → endedB inPlace s box .number ≢ 5 → overB s box ≡ endedB inPlace s box
+  pub from-A :
+      (sum : RowSum) (s : System) (box : List ℤ)
+      → endedA inPlace sum s box .number ≢ 5 → endedA lowestRow sum s box ≡ endedA inPlace sum s box
+  pub from-B :
+      (sum : RowSum) (s : System) (box : List ℤ)
+      → endedB inPlace sum s box .number ≢ 5 → endedB lowestRow sum s box ≡ endedB inPlace sum s box

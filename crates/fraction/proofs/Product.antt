@@ -48,7 +48,7 @@ module _ (s : Scale) (x y : Interval) where
       exact = over 2 _ (λ ρ. simp (linear, ρ) (omega arith))
 
   product-lower : x .lo ≤ℤ x .hi → y .lo ≤ℤ y .hi → Lower (Result (ProductAt s) x y) (Interval.productAt s.units x y .lo)
-  unfolding Interval.productAt
+  unfolding Interval.productAt Interval.rounded Interval.exactProduct
   product-lower h k =
       record {
         bound = λ c r.
@@ -60,7 +60,7 @@ module _ (s : Scale) (x y : Interval) where
 
 -- ---- the upper end is the negative of the lower end for −x and y
 product-negated : (n : ℤ) (x y : Interval) → Interval.productAt n (negated x) y .lo ≡ negℤ (Interval.productAt n x y .hi)
-unfolding Interval.productAt ceilDiv
+unfolding Interval.productAt Interval.rounded Interval.exactProduct ceilDiv
 product-negated n x y = simp (negℤ-negℤ, neg-greatest, neg-*ℤ)
 
 pub product-turn : (s : Scale) (a b c : Fraction) → ProductAt s a b c → ProductAt s (opposite a) b (opposite c)

@@ -4,7 +4,7 @@ use lib.IntN.{ℤ, negℤ}
 use lib.Signed.{_≤ℤ_}
 use Rattle.integer.specs.Extremes.{minimum, maximum}
 use Rattle.integer.proofs.Order.{trans}
-use Rattle.integer.proofs.Extremes.{min-ind, max-ind, min-le-left, min-le-right, min-comm, max-comm, neg-max}
+use Rattle.integer.proofs.Extremes.{min-ind, max-ind, min-le-left, min-le-right, le-max-left, le-max-right, min-comm, max-comm, neg-max}
 use Rattle.interval.specs.Interval.{least, greatest}
 
 module _ (a b c d : ℤ) where
@@ -25,6 +25,18 @@ module _ (a b c d : ℤ) where
 
   pub least-fourth : least a b c d ≤ℤ d
   least-fourth = trans (min-le-right _ _) (min-le-right c d)
+
+  pub greatest-first : a ≤ℤ greatest a b c d
+  greatest-first = trans (le-max-left a b) (le-max-left _ _)
+
+  pub greatest-second : b ≤ℤ greatest a b c d
+  greatest-second = trans (le-max-right a b) (le-max-left _ _)
+
+  pub greatest-third : c ≤ℤ greatest a b c d
+  greatest-third = trans (le-max-left c d) (le-max-right _ _)
+
+  pub greatest-fourth : d ≤ℤ greatest a b c d
+  greatest-fourth = trans (le-max-right c d) (le-max-right _ _)
 
   -- in the opposite sequence
   pub least-back : least a b c d ≡ least d c b a

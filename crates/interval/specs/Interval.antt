@@ -69,10 +69,18 @@ leastProduct x y = least (x .lo *ℤ y .lo) (x .lo *ℤ y .hi) (x .hi *ℤ y .lo
 abbrev pub greatestProduct : Interval → Interval → ℤ
 greatestProduct x y = greatest (x .lo *ℤ y .lo) (x .lo *ℤ y .hi) (x .hi *ℤ y .lo) (x .hi *ℤ y .hi)
 
--- 'the lowest of the four end results rounded towards minus infinity, the highest towards plus infinity', with s units in one whole:
--- the product of two counts of units counts s-ths of a unit, so it is divided by s; of a quotient the dividend is first multiplied by s
+-- every product of numbers of the two, unrounded: the product of two counts of units counts s-ths of a unit, with s units in one whole
+unfoldable pub exactProduct : Interval → Interval → Interval
+exactProduct x y = record { lo = leastProduct x y; hi = greatestProduct x y }
+
+-- ends that count s-ths of a unit, rounded outward to units
+unfoldable pub rounded : ℤ → Interval → Interval
+rounded s v = record { lo = floorDiv (v .lo) s; hi = ceilDiv (v .hi) s }
+
+-- 'the lowest of the four end results rounded towards minus infinity, the highest towards plus infinity', with s units in one whole: a
+-- product is divided by s; of a quotient the dividend is first multiplied by s
 unfoldable pub productAt : ℤ → Interval → Interval → Interval
-productAt s x y = record { lo = floorDiv (leastProduct x y) s; hi = ceilDiv (greatestProduct x y) s }
+productAt s x y = rounded s (exactProduct x y)
 
 -- the four end results are fractions, so each is rounded and then the lowest is taken, which is the lowest rounded
 unfoldable pub quotientAt : ℤ → Interval → Interval → Interval

@@ -13,7 +13,7 @@ use Rattle.integer.proofs.Order.{also, prod, trans}
 use Rattle.integer.proofs.Rounding.{floor-iff, ceil-iff}
 use Rattle.integer.proofs.Machine.{fits64}
 use Rattle.interval.specs.declared.Interval.{Interval}
-use Rattle.interval.specs.Interval.{scale, lowest, highest, acceptable, exactSum, exactDifference, productAt, product, zero}
+use Rattle.interval.specs.Interval.{scale, lowest, highest, acceptable, exactSum, exactDifference, exactProduct, rounded, productAt, product, zero}
 use Rattle.interval.specs.Code.{Representable}
 use Rattle.interval.proofs.Range.{Within, is-sound, scale-above}
 use Rattle.interval.proofs.Corners.{least-ind, greatest-ind}
@@ -92,7 +92,7 @@ below {a} {b} h k = go a b (h .low) (h .high) (k .low) (k .high)
     go = over 2 _ (λ ρ h₁ h₂ k₁ k₂. also (prod h₁ k₁) (also (prod h₁ k₂) (also (prod h₂ k₁) (also (prod h₂ k₂) (simp (linear, ρ) (omega arith))))))
 
 pub product-small : (x y : Interval) → acceptable x ≡ true → acceptable y ≡ true → Small 4000000000000 (product x y)
-unfolding productAt
+unfolding productAt rounded exactProduct
 product-small x y e f =
     let h = is-sound x e in
     let k = is-sound y f in

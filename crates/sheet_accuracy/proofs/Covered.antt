@@ -9,7 +9,7 @@ use lib.ListN.{replicate}
 use Rattle.fraction.specs.Fraction.{Fraction}
 use Rattle.inputs.specs.System.{System}
 use Rattle.elimination.specs.Call.{overB}
-use Rattle.sweep.specs.Calls.{sweepCall, run, call, Change, sweepsOf, changes}
+use Rattle.sweep.specs.Calls.{sweepCall, run, call, Change, sweepsOf, changesBy, changes}
 use Rattle.accuracy.specs.Solution.{Solution}
 use Rattle.accuracy.specs.Claim.{fromB, Bounded, Every}
 use Rattle.accuracy.proofs.Rule.{accuracy}
@@ -24,7 +24,7 @@ last-change P (d ∷ l) c h = last-change P l c (h .1)
 
 module _ (s : System) (X : List ℤ) (h : reached (calculation s X) ≡ true) (x : ℕ → Fraction) (sol : Solution s x) where
   calculation-bounded : Bounded (s .size) (calculation s X .left) x
-  unfolding changes
+  unfolding changesBy
   calculation-bounded =
       let Y = overB s X .left in
       let start = fromB X (record { returned = reached-eliminated s X h; left = refl }) in

@@ -21,48 +21,48 @@ use Rattle.inputs.specs.Place.{put}
 use Rattle.inputs.specs.Tests.{tested}
 use Rattle.inputs.specs.System.{System, system}
 use Rattle.inputs.proofs.Early.{Early, parts, early-sizes, early-all, early-number}
-use Rattle.rows.specs.Sum.{singly}
+use Rattle.rows.specs.Sum.{RowSum, singly}
 use Rattle.sweep.specs.Pass.{component, sweepFrom, sweep, differ}
 use Rattle.sweep.specs.Call.{Log, settled, after, sweeps, last, concluded, allowance, tests}
-use Rattle.sweep.specs.Calls.{Call, sweepCall, run, call}
+use Rattle.sweep.specs.Calls.{Call, sweepCall, runBy, callBy, call}
 use Rattle.sweep.specs.Code.{Ready}
 use Rattle.sweep.proofs.Tests.{ready, fits}
 use Rattle.sweep.proofs.Pass.{ready-put}
 
-module _ (n : ℕ) (m r : List ℤ) where
+module _ (sum : RowSum) (n : ℕ) (m r : List ℤ) where
   abbrev OnRun : Run (List ℤ) → Type 0
   OnRun (refused o) = Unit {0}
   OnRun (done y) = Ready n m r y
 
-  from-keeps : (d i : ℕ) (x : List ℤ) → i + d ≡ n → Ready n m r x → OnRun (sweepFrom singly (system n m r) d i x)
+  from-keeps : (d i : ℕ) (x : List ℤ) → i + d ≡ n → Ready n m r x → OnRun (sweepFrom sum (system n m r) d i x)
   unfolding sweepFrom
   from-keeps zero i x e w = w
   from-keeps (suc d) i x e w = go (isEmpty v) refl (from-keeps d (i + 1) (put x i v) (omega arith))
     where
       v : Interval
-      v = component singly (system n m r) x i
+      v = component sum (system n m r) x i
 
-      go : (t : Bool) → isEmpty v ≡ t → (Ready n m r (put x i v) → OnRun (sweepFrom singly (system n m r) d (i + 1) (put x i v)))
-          → OnRun (cond t (refused (outcome.Empty (i + 1))) (sweepFrom singly (system n m r) d (i + 1) (put x i v)))
+      go : (t : Bool) → isEmpty v ≡ t → (Ready n m r (put x i v) → OnRun (sweepFrom sum (system n m r) d (i + 1) (put x i v)))
+          → OnRun (cond t (refused (outcome.Empty (i + 1))) (sweepFrom sum (system n m r) d (i + 1) (put x i v)))
       go true f k = tt
-      go false f k = k (ready-put w i (omega arith) f)
+      go false f k = k (ready-put sum w i (omega arith) f)
 
-  sweep-keeps : (x : List ℤ) → Ready n m r x → OnRun (sweep singly (system n m r) x)
+  sweep-keeps : (x : List ℤ) → Ready n m r x → OnRun (sweep sum (system n m r) x)
   unfolding sweep
   sweep-keeps x w = from-keeps n 0 x (zero-add n) w
 
-  sweeps-keep : (k : ℕ) (lent x : List ℤ) → Ready n m r lent → Ready n m r x → Ready n m r (last (sweeps n (sweep singly (system n m r)) k x) lent x)
+  sweeps-keep : (k : ℕ) (lent x : List ℤ) → Ready n m r lent → Ready n m r x → Ready n m r (last (sweeps n (sweep sum (system n m r)) k x) lent x)
   unfolding sweeps
   sweeps-keep zero lent x l w = w
-  sweeps-keep (suc k) lent x l w = go (sweep singly (system n m r) x) (sweep-keeps x w) (λ y. sweeps-keep k lent y l)
+  sweeps-keep (suc k) lent x l w = go (sweep sum (system n m r) x) (sweep-keeps x w) (λ y. sweeps-keep k lent y l)
     where
-      pick : (b : Bool) (y : List ℤ) → Ready n m r y → (Ready n m r y → Ready n m r (last (sweeps n (sweep singly (system n m r)) k y) lent y))
-          → Ready n m r (last (cond b (sweeps n (sweep singly (system n m r)) k y) settled) lent y)
+      pick : (b : Bool) (y : List ℤ) → Ready n m r y → (Ready n m r y → Ready n m r (last (sweeps n (sweep sum (system n m r)) k y) lent y))
+          → Ready n m r (last (cond b (sweeps n (sweep sum (system n m r)) k y) settled) lent y)
       pick true y h f = f h
       pick false y h f = h
 
-      go : (p : Run (List ℤ)) → OnRun p → ((y : List ℤ) → Ready n m r y → Ready n m r (last (sweeps n (sweep singly (system n m r)) k y) lent y))
-          → Ready n m r (last (after n x p (λ y. sweeps n (sweep singly (system n m r)) k y)) lent x)
+      go : (p : Run (List ℤ)) → OnRun p → ((y : List ℤ) → Ready n m r y → Ready n m r (last (sweeps n (sweep sum (system n m r)) k y) lent y))
+          → Ready n m r (last (after n x p (λ y. sweeps n (sweep sum (system n m r)) k y)) lent x)
       go (refused o) h f = l
       go (done y) h f = pick (differ x y n 0) y h (f y)
 
@@ -77,7 +77,7 @@ refused-not-empty s k x {o} e = ne-eqb (numberAndPlace o .number) 7 (omega (arit
 -- ---- a call that said 0 or 9 has passed them
 pub call-keeps : (s : System) (c : Call) (x : List ℤ) → (call s c x .number ≡ 0) ⊎ (call s c x .number ≡ 9)
     → (1 ≤ s .size) × Ready (s .size) (s .matrix) (s .right) (call s c x .left)
-unfolding call run tested ended
+unfolding callBy runBy tested ended
 call-keeps s (sweepCall k) x e = go (tests s k x) refl (early-tests s k x) e
   where
     l : Log
@@ -86,6 +86,6 @@ call-keeps s (sweepCall k) x e = go (tests s k x) refl (early-tests s k x) e
     go : (t : Test) → tests s k x ≡ t → Early t
         → (ended (concluded x) x (tested t (done l)) .number ≡ 0) ⊎ (ended (concluded x) x (tested t (done l)) .number ≡ 9)
         → (1 ≤ s .size) × Ready (s .size) (s .matrix) (s .right) (ended (concluded x) x (tested t (done l)) .left)
-    go Pass f h e = let w = ready s k x f in (fits s k x f .some, sweeps-keep (s .size) (s .matrix) (s .right) k x x w w)
+    go Pass f h e = let w = ready s k x f in (fits s k x f .some, sweeps-keep singly (s .size) (s .matrix) (s .right) k x x w w)
     go (Fail o) f h (inl e) = absurd (omega (arith, early-number h refl))
     go (Fail o) f h (inr e) = absurd (omega (arith, early-number h refl))

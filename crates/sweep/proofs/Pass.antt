@@ -55,7 +55,9 @@ module _ {n : ℕ} {m r x : List ℤ} (w : Ready n m r x) (i : ℕ) where
   pub component-fits : Representable (exactSum (at r i) (singly m (i * n) x 0 n))
   component-fits = small-fits (omega (arith, w .few)) (sum-small (acceptable-small _ (w .right-sound .each i)) (singly-small m (i * n) x 0 n (w .matrix-sound) (w .box-sound)))
 
-  component-accepted : isEmpty (component singly (system n m r) x i) ≡ false → acceptable (component singly (system n m r) x i) ≡ true
+-- whatever the row sum is: what is not empty is an interval, and the box stays one of intervals
+module _ (sum : RowSum) {n : ℕ} {m r x : List ℤ} (w : Ready n m r x) (i : ℕ) where
+  component-accepted : isEmpty (component sum (system n m r) x i) ≡ false → acceptable (component sum (system n m r) x i) ≡ true
   unfolding component intersection
   component-accepted e =
       let o = is-sound (at x i) (w .box-sound .each i) in
@@ -64,8 +66,7 @@ module _ {n : ℕ} {m r x : List ℤ} (w : Ready n m r x) (i : ℕ) where
       let high = trans (min-le-right _ (at x i .hi)) (o .hi-in .high) in
       sound-accepted _ (record { order = h; lo-in = record { low = low; high = trans h high }; hi-in = record { low = trans low h; high = high } })
 
-  -- the box stays one of intervals
-  pub ready-put : i < n → isEmpty (component singly (system n m r) x i) ≡ false → Ready n m r (put x i (component singly (system n m r) x i))
+  pub ready-put : i < n → isEmpty (component sum (system n m r) x i) ≡ false → Ready n m r (put x i (component sum (system n m r) x i))
   ready-put h e =
       record {
         few = w .few;
@@ -101,7 +102,7 @@ module _ {n i : ℕ} {m r x₀ x : List ℤ} {c : Bool} (w : Halfway n i m r x�
         let k : 2 * i + 1 < length x = omega (arith, w .ready .box) in
         rw (q, p, g, w .flag)
         (record {
-          ready = rw e (ready-put (w .ready) i h (rw e at f));
+          ready = rw e (ready-put singly (w .ready) i h (rw e at f));
           rest = w .rest ∙ rw e (sweep-go singly (system n m r) i x h (rw e at f));
           flag = rw (w .old i (omega arith)) (sym (differ-put x₀ x i v k (w .old i (omega arith)) n 0 (omega arith) (omega arith)));
           old = λ j l. at-put-other x i j v (omega arith) ∙ w .old j (omega arith);

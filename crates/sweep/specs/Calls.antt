@@ -7,7 +7,7 @@ use lib.IntN.{ℤ}
 use Rattle.outcome.specs.Run.{Run, refused, done, Returned, ended}
 use Rattle.inputs.specs.Tests.{tested}
 use Rattle.inputs.specs.System.{System}
-use Rattle.rows.specs.Sum.{singly}
+use Rattle.rows.specs.Sum.{RowSum, singly}
 use Rattle.sweep.specs.Pass.{sweep}
 use Rattle.sweep.specs.Call.{Log, stopped, settled, spent, swept, sweeps, tests, concluded}
 
@@ -15,13 +15,13 @@ use Rattle.sweep.specs.Call.{Log, stopped, settled, spent, swept, sweeps
 pub data Call : Type 0 where
   sweepCall : (allowed : ℕ) → Call
 
--- its tests refuse it, or it sweeps
-unfoldable pub run : System → Call → List ℤ → Run Log
-run s (sweepCall k) X = tested (tests s k X) (done (sweeps (s .size) (sweep singly s) k X))
+-- its tests refuse it, or it sweeps, with the row sum that is given
+unfoldable pub runBy : RowSum → System → Call → List ℤ → Run Log
+runBy sum s (sweepCall k) X = tested (tests s k X) (done (sweeps (s .size) (sweep sum s) k X))
 
 -- what it returns, and what it leaves in the lent box
-unfoldable pub call : System → Call → List ℤ → Returned (List ℤ)
-call s c X = ended (concluded X) X (run s c X)
+unfoldable pub callBy : RowSum → System → Call → List ℤ → Returned (List ℤ)
+callBy sum s c X = ended (concluded X) X (runBy sum s c X)
 
 -- a box before and after a whole sweep, or before and after a call
 pub record Change : Type 0 where
@@ -40,11 +40,25 @@ sweepsOf (refused o) X = []
 sweepsOf (done l) X = sweepChanges l X
 
 -- 'Each call gets the box as the one before left it, after a refusal unchanged, and the list goes on'
-unfoldable pub changes : System → List Call → List ℤ → List Change
-changes s [] X = []
-changes s (c ∷ cs) X = sweepsOf (run s c X) X ++ (record { before = X; after = call s c X .left } ∷ changes s cs (call s c X .left))
+unfoldable pub changesBy : RowSum → System → List Call → List ℤ → List Change
+changesBy sum s [] X = []
+changesBy sum s (c ∷ cs) X =
+    sweepsOf (runBy sum s c X) X ++ (record { before = X; after = callBy sum s c X .left } ∷ changesBy sum s cs (callBy sum s c X .left))
 
 -- ''Empty' is 7': a list with a call that returns it
-unfoldable pub anyEmpty : System → List Call → List ℤ → Bool
-anyEmpty s [] X = false
-anyEmpty s (c ∷ cs) X = eqb (call s c X .number) 7 || anyEmpty s cs (call s c X .left)
+unfoldable pub anyEmptyBy : RowSum → System → List Call → List ℤ → Bool
+anyEmptyBy sum s [] X = false
+anyEmptyBy sum s (c ∷ cs) X = eqb (callBy sum s c X .number) 7 || anyEmptyBy sum s cs (callBy sum s c X .left)
+
+-- the calls, as they are
+abbrev pub run : System → Call → List ℤ → Run Log
+run = runBy singly
+
+abbrev pub call : System → Call → List ℤ → Returned (List ℤ)
+call = callBy singly
+
+abbrev pub changes : System → List Call → List ℤ → List Change
+changes = changesBy singly
+
+abbrev pub anyEmpty : System → List Call → List ℤ → Bool
+anyEmpty = anyEmptyBy singly

@@ -1,6 +1,6 @@
 use mathlib.Core.Path.{sym, _∙_}
 use borrow.Author.Needs.{needs}
-use Rattle.sweep.specs.Calls.{run, call}
+use Rattle.sweep.specs.Calls.{runBy, callBy}
 use Rattle.sweep.proofs.Log.{call-runs, call-fails}
 use Rattle.sweep.proofs.sweep.Statement.{statement}
 use Rattle.sweep.proofs.sweep.Tie as tie
@@ -21,14 +21,14 @@ same-length : tie.Need-same-length
 same-length c = search needs
 
 returns : tie.Need-returns
-unfolding call run
+unfolding callBy runBy
 returns c = call-runs _ _ _ (sym (c .before .before .before .before .before .tested .ensures) ∙ c .before .before .before .enum-told .given .1) (c .before .run .ensures)
 
 same-length-2 : tie.Need-same-length-2
 same-length-2 c = search needs
 
 returns-2 : tie.Need-returns-2
-unfolding call run
+unfolding callBy runBy
 returns-2 c = call-fails _ _ _ (sym (c .before .before .before .tested .ensures) ∙ c .before .o .given .1)
 
 pub sweep-spec : {M : Type 1} → statement M

@@ -5,7 +5,7 @@ use mir.Syntax.{w64}
 use mir.Val.{toZ, ofZ}
 use Rattle.integer.specs.Rounding.{floorDiv, ceilDiv}
 use Rattle.integer.proofs.Machine.{plain}
-use Rattle.interval.specs.Interval.{scale, leastProduct, greatestProduct, productAt}
+use Rattle.interval.specs.Interval.{scale, leastProduct, greatestProduct, exactProduct, rounded, productAt}
 use Rattle.interval.proofs.Range.{is-sound, same-ends}
 use Rattle.interval.proofs.Scaled.{least-bounded, greatest-bounded}
 use Rattle.interval.proofs.internal.product.product.Statement.{statement}
@@ -34,7 +34,7 @@ scaled-up-requires c κs =
     rw (high (c .before)) (greatest-bounded (is-sound _ (s .pre .0)) (is-sound _ (s .pre .1)))
 
 returns : tie.Need-returns
-unfolding productAt
+unfolding productAt rounded exactProduct
 returns c =
     let d = c .before in
     let g = d .before in

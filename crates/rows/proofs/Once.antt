@@ -1,0 +1,136 @@
+-- A row that is rounded once lies inside one whose products are rounded singly, also if it is taken of narrower intervals; its ends are in
+-- sequence.
+use mathlib.Core.Path.{_≡_, sym, ap₂}
+use mathlib.Core.List.{List}
+use Prim.Native.Nat.{ℕ, zero, suc, _+_, _<_}
+use native.Mathlib.Omega.{arith}
+use lib.IntN.{ℤ, pos, negℤ, _+ℤ_, _*ℤ_}
+use lib.Signed.{_≤ℤ_, ≤ℤ-refl}
+use Rattle.integer.specs.Rounding.{floorDiv, ceilDiv}
+use Rattle.integer.proofs.Linear.{linear, over}
+use Rattle.integer.proofs.Order.{trans, corners, cancel}
+use Rattle.integer.proofs.Rounding.{floor-low, floor-iff, ceil-high, ceil-iff}
+use Rattle.interval.specs.declared.Interval.{Interval}
+use Rattle.interval.specs.Interval.{scale, greatest, leastProduct, greatestProduct, exactSum, exactProduct, rounded, productAt, product, zero as nought}
+use Rattle.interval.proofs.Range.{scale-above}
+use Rattle.interval.proofs.Corners.{least-ind, greatest-ind, least-first, least-second, least-third, least-fourth, greatest-first, greatest-second, greatest-third, greatest-fourth}
+use Rattle.fraction.specs.Meaning.{Contains}
+use Rattle.inputs.specs.Place.{at}
+use Rattle.rows.specs.Sum.{summed, singly, exactly, once}
+
+pub upper-corners : (a b c d x y m : ℤ) → a ≤ℤ x → x ≤ℤ b → c ≤ℤ y → y ≤ℤ d → (a *ℤ c) ≤ℤ m → (a *ℤ d) ≤ℤ m → (b *ℤ c) ≤ℤ m → (b *ℤ d) ≤ℤ m → (x *ℤ y) ≤ℤ m
+upper-corners a b c d x y m h k p q e₁ e₂ e₃ e₄ =
+    back x y m (corners a b (negℤ d) (negℤ c) x (negℤ y) (negℤ m) h k (turn y d q) (turn c y p) (into a d m e₂) (into a c m e₁) (into b d m e₄) (into b c m e₃))
+  where
+    turn : (u v : ℤ) → u ≤ℤ v → negℤ v ≤ℤ negℤ u
+    turn = over 2 _ (λ ρ. simp linear (omega arith))
+
+    into : (u v m : ℤ) → (u *ℤ v) ≤ℤ m → negℤ m ≤ℤ (u *ℤ negℤ v)
+    into = over 3 _ (λ ρ. simp linear (omega arith))
+
+    back : (u v m : ℤ) → negℤ m ≤ℤ (u *ℤ negℤ v) → (u *ℤ v) ≤ℤ m
+    back = over 3 _ (λ ρ. simp linear (omega arith))
+
+-- ---- ends of narrower intervals
+pub record Narrow (x y : Interval) : Type 0 where
+  pub inside : Contains x y
+  pub order : y .lo ≤ℤ y .hi
+
+module _ {x y u v : Interval} (h : Narrow x u) (k : Narrow y v) where
+  -- the lowest product of the wider intervals is at most each product of numbers in the narrower
+  low-corner : {a b : ℤ} → x .lo ≤ℤ a → a ≤ℤ x .hi → y .lo ≤ℤ b → b ≤ℤ y .hi → leastProduct x y ≤ℤ (a *ℤ b)
+  low-corner {a} {b} p q r t =
+      corners (x .lo) (x .hi) (y .lo) (y .hi) a b _ p q r t (least-first _ _ _ _) (least-second _ _ _ _) (least-third _ _ _ _) (least-fourth _ _ _ _)
+
+  high-corner : {a b : ℤ} → x .lo ≤ℤ a → a ≤ℤ x .hi → y .lo ≤ℤ b → b ≤ℤ y .hi → (a *ℤ b) ≤ℤ greatestProduct x y
+  high-corner {a} {b} p q r t =
+      upper-corners (x .lo) (x .hi) (y .lo) (y .hi) a b _ p q r t (greatest-first _ _ _ _) (greatest-second _ _ _ _) (greatest-third _ _ _ _) (greatest-fourth _ _ _ _)
+
+  lo-in : (x .lo ≤ℤ u .lo) × (u .lo ≤ℤ x .hi)
+  lo-in = (h .inside .low, trans (h .order) (h .inside .high))
+
+  hi-in : (x .lo ≤ℤ u .hi) × (u .hi ≤ℤ x .hi)
+  hi-in = (trans (h .inside .low) (h .order), h .inside .high)
+
+  lo-in′ : (y .lo ≤ℤ v .lo) × (v .lo ≤ℤ y .hi)
+  lo-in′ = (k .inside .low, trans (k .order) (k .inside .high))
+
+  hi-in′ : (y .lo ≤ℤ v .hi) × (v .hi ≤ℤ y .hi)
+  hi-in′ = (trans (k .inside .low) (k .order), k .inside .high)
+
+  least-rises : leastProduct x y ≤ℤ leastProduct u v
+  least-rises =
+      least-ind _ _ _ _ (λ z. leastProduct x y ≤ℤ z)
+      (low-corner (lo-in .0) (lo-in .1) (lo-in′ .0) (lo-in′ .1)) (low-corner (lo-in .0) (lo-in .1) (hi-in′ .0) (hi-in′ .1))
+      (low-corner (hi-in .0) (hi-in .1) (lo-in′ .0) (lo-in′ .1)) (low-corner (hi-in .0) (hi-in .1) (hi-in′ .0) (hi-in′ .1))
+
+  greatest-falls : greatestProduct u v ≤ℤ greatestProduct x y
+  greatest-falls =
+      greatest-ind _ _ _ _ (λ z. z ≤ℤ greatestProduct x y)
+      (high-corner (lo-in .0) (lo-in .1) (lo-in′ .0) (lo-in′ .1)) (high-corner (lo-in .0) (lo-in .1) (hi-in′ .0) (hi-in′ .1))
+      (high-corner (hi-in .0) (hi-in .1) (lo-in′ .0) (lo-in′ .1)) (high-corner (hi-in .0) (hi-in .1) (hi-in′ .0) (hi-in′ .1))
+
+-- ---- e₁ counts parts of a unit, s of them in one; it lies inside v
+record Scaled (v e₁ : Interval) : Type 0 where
+  low : (v .lo *ℤ scale) ≤ℤ e₁ .lo
+  high : e₁ .hi ≤ℤ (v .hi *ℤ scale)
+
+scaled-sum : {v e₁ w e₂ : Interval} → Scaled v e₁ → Scaled w e₂ → Scaled (exactSum v w) (exactSum e₁ e₂)
+unfolding exactSum
+scaled-sum {v} {e₁} {w} {e₂} h k =
+    record { low = lows (v .lo) (w .lo) scale (e₁ .lo) (e₂ .lo) (h .low) (k .low); high = highs (v .hi) (w .hi) scale (e₁ .hi) (e₂ .hi) (h .high) (k .high) }
+  where
+    lows : (a b s u v : ℤ) → (a *ℤ s) ≤ℤ u → (b *ℤ s) ≤ℤ v → ((a +ℤ b) *ℤ s) ≤ℤ (u +ℤ v)
+    lows = over 5 _ (λ ρ. simp linear (omega arith))
+
+    highs : (a b s u v : ℤ) → u ≤ℤ (a *ℤ s) → v ≤ℤ (b *ℤ s) → (u +ℤ v) ≤ℤ ((a +ℤ b) *ℤ s)
+    highs = over 5 _ (λ ρ. simp linear (omega arith))
+
+scaled-product : {x y u v : Interval} → Narrow x u → Narrow y v → Scaled (product x y) (exactProduct u v)
+unfolding productAt rounded exactProduct
+scaled-product h k =
+    record { low = trans (floor-low _ scale scale-above) (least-rises h k); high = trans (greatest-falls h k) (ceil-high _ scale scale-above) }
+
+scaled-zero : Scaled nought nought
+scaled-zero = record { low = zeros scale; high = zeros′ scale }
+  where
+    zeros : (s : ℤ) → (pos 0 *ℤ s) ≤ℤ pos 0
+    zeros = over 1 _ (λ ρ. simp (linear, ρ) (omega arith))
+
+    zeros′ : (s : ℤ) → pos 0 ≤ℤ (pos 0 *ℤ s)
+    zeros′ = over 1 _ (λ ρ. simp (linear, ρ) (omega arith))
+
+scaled-rounded : {v e₁ : Interval} → Scaled v e₁ → Contains v (rounded scale e₁)
+unfolding rounded
+scaled-rounded h = record { low = floor-iff _ scale _ scale-above .1 (h .low); high = ceil-iff _ scale _ scale-above .1 (h .high) }
+
+module _ (m : List ℤ) (p : ℕ) (x : List ℤ) (q : ℕ) (m′ x′ : List ℤ) where
+  scaled-row : (d j : ℕ) (v e₁ : Interval) → ((i : ℕ) → i < j + d → Narrow (at m (p + i)) (at m′ (p + i))) → ((i : ℕ) → i < j + d → Narrow (at x (q + i)) (at x′ (q + i))) →
+      Scaled v e₁ → Scaled (summed m p x q d j v) (exactly m′ p x′ q d j e₁)
+  unfolding summed exactly
+  scaled-row zero j v e₁ h k e = e
+  scaled-row (suc d) j v e₁ h k e =
+      scaled-row d (j + 1) _ _ (λ i l. h i (omega arith)) (λ i l. k i (omega arith)) (scaled-sum e (scaled-product (h j (omega arith)) (k j (omega arith))))
+
+  pub once-inside : (d : ℕ) → ((i : ℕ) → i < d → Narrow (at m (p + i)) (at m′ (p + i))) → ((i : ℕ) → i < d → Narrow (at x (q + i)) (at x′ (q + i))) →
+      Contains (singly m p x q d) (once m′ p x′ q d)
+  unfolding singly once
+  once-inside d h k = scaled-rounded (scaled-row d 0 _ _ (λ i l. h i (omega arith)) (λ i l. k i (omega arith)) scaled-zero)
+
+-- ---- a row that is rounded once has its ends in sequence
+product-order : (x y : Interval) → leastProduct x y ≤ℤ greatestProduct x y
+product-order x y = trans (least-first _ _ _ _) (greatest-first _ _ _ _)
+
+exactly-order : (m : List ℤ) (p : ℕ) (x : List ℤ) (q d j : ℕ) (v : Interval) → v .lo ≤ℤ v .hi → exactly m p x q d j v .lo ≤ℤ exactly m p x q d j v .hi
+unfolding exactly exactSum exactProduct
+exactly-order m p x q zero j v h = h
+exactly-order m p x q (suc d) j v h = exactly-order m p x q d (j + 1) _ (go (v .lo) (v .hi) _ _ h (product-order (at m (p + j)) (at x (q + j))))
+  where
+    go : (a b c d : ℤ) → a ≤ℤ b → c ≤ℤ d → (a +ℤ c) ≤ℤ (b +ℤ d)
+    go = over 4 _ (λ ρ. simp linear (omega arith))
+
+pub once-order : (m : List ℤ) (p : ℕ) (x : List ℤ) (q d : ℕ) → once m p x q d .lo ≤ℤ once m p x q d .hi
+unfolding once rounded
+once-order m p x q d =
+    let v = exactly m p x q d 0 nought in
+    cancel _ _ scale scale-above (trans (floor-low (v .lo) scale scale-above) (trans (exactly-order m p x q d 0 nought (≤ℤ-refl _)) (ceil-high (v .hi) scale scale-above)))
