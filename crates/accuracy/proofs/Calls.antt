@@ -14,8 +14,8 @@ use Rattle.inputs.specs.declared.Test.the-variants.{Pass, Fail}
 use Rattle.inputs.specs.Place.{at}
 use Rattle.inputs.specs.Tests.{tested}
 use Rattle.inputs.specs.System.{System}
-use Rattle.rows.specs.Sum.{singly}
-use Rattle.rows.proofs.Enclosed.{singly-encloses}
+use Rattle.rows.specs.Sum.{once}
+use Rattle.rows.proofs.Encloses.{once-encloses}
 use Rattle.sweep.specs.Pass.{differ}
 use Rattle.sweep.specs.Call.{Log, stopped, settled, spent, swept, after, sweeps, ending, last, concluded, tests}
 use Rattle.sweep.specs.Calls.{Call, sweepCall, runBy, run, callBy, call, Change, sweepChanges, sweepsOf, changesBy, changes, anyEmptyBy, anyEmpty}
@@ -83,7 +83,7 @@ module _ (s : System) where
 
   pub on-run : (c : Call) (X : List ℤ) → OnRun X (run s c X)
   unfolding runBy
-  on-run (sweepCall k) X = on-call (sweep-faithful singly singly-encloses s) k X
+  on-run (sweepCall k) X = on-call (sweep-faithful once once-encloses s) k X
 
   -- ---- the boxes of a list that began with X₀: each follows from X₀ and from the one before it
   pub record Fine (X₀ : List ℤ) (c : Change) : Type 0 where

@@ -14,9 +14,9 @@ use Rattle.inputs.specs.Place.{at, cell}
 use Rattle.inputs.specs.System.{System, tests}
 use Rattle.inputs.proofs.System.{ready}
 use Rattle.inputs.proofs.Accepted.{tested-done}
-use Rattle.rows.specs.Sum.{RowSum, singly}
+use Rattle.rows.specs.Sum.{RowSum, once}
 use Rattle.rows.specs.Exact.{Encloses}
-use Rattle.rows.proofs.Enclosed.{singly-encloses}
+use Rattle.rows.proofs.Encloses.{once-encloses}
 use Rattle.outcome.specs.Run.{done}
 use Rattle.outcome.proofs.Run.{done-same, joined}
 use Rattle.forward.specs.Run.{rhs}
@@ -69,18 +69,18 @@ module _ (sum : RowSum) (encloses : Encloses sum) (s : System) (t X : List ℤ) 
       }
 
 -- the call over A and f: the list holds A, which is I − (I − A)
-pub over-A : (s : System) (l : ℕ) (X : List ℤ) → runA lowestRow singly s l ≡ done X → (x : ℕ → Fraction) → Solution (balanceOf s) x → InBox (s .size) X x
+pub over-A : (s : System) (l : ℕ) (X : List ℤ) → runA lowestRow once s l ≡ done X → (x : ℕ → Fraction) → Solution (balanceOf s) x → InBox (s .size) X x
 unfolding runA balanceOf
 over-A s l X e =
     let a = tested-done (tests s l) _ X e in
     let r = ready s l (a .0) in
     let m = r .fitting .matrix in
-    solution-inside singly singly-encloses (balanceOf s) (copied s) X (copied-working s l r .room) (a .1)
+    solution-inside once once-encloses (balanceOf s) (copied s) X (copied-working s l r .room) (a .1)
     (λ i j h k. copied-cell s m i j h k ∙ sym (ap (exactDifference (identity i j)) (balance-cell s i j h k) ∙ identity-twice i j _))
     (copied-right s m (r .fitting .right))
 
 -- the call over B and b: I − B is formed first
-pub over-B : (s : System) (l : ℕ) (X : List ℤ) → runB lowestRow singly s l ≡ done X → (x : ℕ → Fraction) → Solution s x → InBox (s .size) X x
+pub over-B : (s : System) (l : ℕ) (X : List ℤ) → runB lowestRow once s l ≡ done X → (x : ℕ → Fraction) → Solution s x → InBox (s .size) X x
 unfolding runB
 over-B s l X e =
     let a = tested-done (tests s l) _ X e in
@@ -89,6 +89,6 @@ over-B s l X e =
     let b = joined _ _ X (a .1) in
     let room = copied-working s l r .room in
     let f = rows-formed (s .size) (s .size) 0 (copied s) (b .mid) (omega arith) room (b .first) in
-    solution-inside singly singly-encloses s (b .mid) X (omega (arith, f .as-long, room)) (b .rest)
+    solution-inside once once-encloses s (b .mid) X (omega (arith, f .as-long, room)) (b .rest)
     (λ i j h k. f .new i j (omega arith) h k ∙ ap (exactDifference (identity i j)) (copied-cell s m i j h k))
     (λ i h. f .old (rhs (s .size) i) (inr (omega arith)) ∙ copied-right s m (r .fitting .right) i h)

@@ -8,12 +8,12 @@ use lib.Signed.{leZ-yes, ltZ-yes}
 use Rattle.integer.specs.Rounding.{floorDiv, ceilDiv}
 use Rattle.integer.specs.Extremes.{minimum, maximum}
 use Rattle.outcome.specs.Run.{andThen, ended}
-use Rattle.interval.specs.Interval.{scale, lowest, highest, within, inRange, acceptable, containsZero, exactDifference, quotientAt}
+use Rattle.interval.specs.Interval.{scale, lowest, highest, within, inRange, acceptable, containsZero, exactDifference, rounded, quotientAt}
 use Rattle.fraction.specs.Fraction.{Fraction, Inside, Same, sum, productAt}
 use Rattle.inputs.specs.Place.{at, put, cell, numbers}
 use Rattle.inputs.specs.Tests.{both, need, sized, lengths, sizes, proper, allProper, tested}
 use Rattle.inputs.specs.System.{tests}
-use Rattle.rows.specs.Sum.{summed, singly}
+use Rattle.rows.specs.Sum.{exactly, once}
 use Rattle.rows.specs.Exact.{exactRow}
 use Rattle.forward.specs.Run.{inRangeThen}
 use Rattle.forward.specs.Pivot.{lowestFrom, lowestRow, exchanged, swappedColumns, swapped}
@@ -54,7 +54,7 @@ row = record { holds = refl }
 
 -- what elimination writes for it, by computation
 accepted : Accepted (overA fifth) (pos 0 ∷ pos 0 ∷ []) reached
-unfolding floorDiv ceilDiv minimum maximum scale lowest highest within inRange acceptable containsZero exactDifference quotientAt at put both need sized lengths sizes proper allProper tested summed singly andThen inRangeThen lowestFrom lowestRow exchanged swappedColumns swapped taking rows pivots forward numerator back copied box solved tests runA ended
+unfolding floorDiv ceilDiv minimum maximum scale lowest highest within inRange acceptable containsZero exactDifference rounded quotientAt at put both need sized lengths sizes proper allProper tested exactly once andThen inRangeThen lowestFrom lowestRow exchanged swappedColumns swapped taking rows pivots forward numerator back copied box solved tests runA ended
 accepted = record { returned = refl; left = refl }
 
 pub example : Example

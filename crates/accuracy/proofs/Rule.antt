@@ -12,7 +12,7 @@ use Rattle.interval.specs.Interval.{width}
 use Rattle.fraction.specs.Fraction.{Fraction, Inside}
 use Rattle.inputs.specs.Place.{at}
 use Rattle.inputs.specs.System.{System}
-use Rattle.rows.specs.Sum.{singly}
+use Rattle.rows.specs.Sum.{once}
 use Rattle.elimination.proofs.Accepted.{accepted-A, accepted-B}
 use Rattle.sweep.specs.Calls.{changes}
 use Rattle.accuracy.specs.Solution.{Solution, InBox, balanceOf}
@@ -39,8 +39,8 @@ held h = record { inside = h; close = λ j k y i. off-by (h .each j k) i }
 begins : (s : System) (X : List ℤ) (start : Start s X) (x : ℕ → Fraction) → Solution s x → Covered start x → InBox (s .size) X x
 unfolding balanceOf
 begins s X lent x sol m = m
-begins s X (fromB box e) x sol m = over-B s (length box) X (accepted-B singly s box (e .returned) (e .left)) x sol
-begins s X (fromA a box f e) x sol m = rw f (over-A a (length box) X (accepted-A singly a box (e .returned) (e .left)) x (rw f at sol))
+begins s X (fromB box e) x sol m = over-B s (length box) X (accepted-B once s box (e .returned) (e .left)) x sol
+begins s X (fromA a box f e) x sol m = rw f (over-A a (length box) X (accepted-A once a box (e .returned) (e .left)) x (rw f at sol))
 
 pub accuracy : AccuracyRule
 accuracy s X start calls =

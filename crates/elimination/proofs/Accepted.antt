@@ -10,7 +10,7 @@ use Rattle.outcome.proofs.Run.{refuses-then}
 use Rattle.inputs.specs.System.{System}
 use Rattle.inputs.proofs.Early.{early-tests}
 use Rattle.inputs.proofs.Accepted.{Refusal, Stops, refuses-tested, to-end, not-spent}
-use Rattle.rows.specs.Sum.{RowSum, singly}
+use Rattle.rows.specs.Sum.{RowSum, once}
 use Rattle.forward.specs.Pivot.{lowestRow}
 use Rattle.elimination.specs.Call.{solved, runA, runB, endedA, endedB, overB}
 use Rattle.elimination.proofs.Refused.{refuses-formedRows, refuses-solved}
@@ -30,7 +30,7 @@ stops-B sum s l = search (refuses-tested, early-tests, refuses-then, refuses-for
 
 -- 9 is said by sweeps alone
 pub never-spent-B : (s : System) (lent : List ℤ) → overB s lent .number ≡ 9 → ⊥
-never-spent-B s lent = not-spent (runB lowestRow singly s (length lent)) lent (stops-B singly s (length lent))
+never-spent-B s lent = not-spent (runB lowestRow once s (length lent)) lent (stops-B once s (length lent))
 
 module _ (sum : RowSum) (s : System) (lent : List ℤ) {x : List ℤ} where
   pub accepted-A : endedA lowestRow sum s lent .number ≡ 0 → x ≡ endedA lowestRow sum s lent .left → runA lowestRow sum s (length lent) ≡ done x

@@ -15,7 +15,7 @@ use Rattle.inputs.specs.Code.{Ended}
 use Rattle.inputs.proofs.Tests.{square}
 use Rattle.inputs.proofs.System.{Ready}
 use Rattle.inputs.proofs.Place.{sound-append, sound-noughts}
-use Rattle.rows.specs.Sum.{singly}
+use Rattle.rows.specs.Sum.{once}
 use Rattle.forward.specs.Pivot.{lowestRow}
 use Rattle.forward.specs.Forward.{Table, table, forward}
 use Rattle.elimination.specs.Back.{back}
@@ -53,16 +53,16 @@ module _ (s : System) (l : ℕ) (r : Ready s l) where
 
 -- ---- the calculation from its parts
 module _ (n : ℕ) (t x : List ℤ) where
-  pub ended-forward : {o : Outcome} → forward lowestRow n (table t noneTaken) ≡ refused o → Ended (solved lowestRow singly n t) o x x
+  pub ended-forward : {o : Outcome} → forward lowestRow n (table t noneTaken) ≡ refused o → Ended (solved lowestRow once n t) o x x
   unfolding solved andThen ended
   ended-forward e = record { is = rw e }
 
   module _ {s : Table} (e : forward lowestRow n (table t noneTaken) ≡ done s) where
-    pub ended-back : {o : Outcome} → back singly n n (s .numbers) ≡ refused o → Ended (solved lowestRow singly n t) o x x
+    pub ended-back : {o : Outcome} → back once n n (s .numbers) ≡ refused o → Ended (solved lowestRow once n t) o x x
     unfolding solved andThen ended
     ended-back f = record { is = rw (e, f) }
 
-    pub ended-done : {t₁ y : List ℤ} → back singly n n (s .numbers) ≡ done t₁ → length x ≡ 2 * n → y ≡ take (length x) (drop (2 * (n * n)) t₁) → Ended (solved lowestRow singly n t) outcome.Done x y
+    pub ended-done : {t₁ y : List ℤ} → back once n n (s .numbers) ≡ done t₁ → length x ≡ 2 * n → y ≡ take (length x) (drop (2 * (n * n)) t₁) → Ended (solved lowestRow once n t) outcome.Done x y
     unfolding solved andThen box ended
     ended-done f l g = record { is = rw (e, f, ← l, g) }
 

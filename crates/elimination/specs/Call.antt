@@ -6,7 +6,7 @@ use lib.ListN.{length, take, drop, replicate}
 use Rattle.outcome.specs.Run.{Run, done, andThen, Returned, written, ended}
 use Rattle.inputs.specs.Tests.{tested}
 use Rattle.inputs.specs.System.{System, tests}
-use Rattle.rows.specs.Sum.{RowSum, singly}
+use Rattle.rows.specs.Sum.{RowSum, once}
 use Rattle.forward.specs.Pivot.{Pivoting, lowestRow}
 use Rattle.forward.specs.Forward.{table, forward}
 use Rattle.elimination.specs.Back.{back}
@@ -44,7 +44,7 @@ endedB p sum s X = ended written X (runB p sum s (length X))
 
 -- the two calls
 abbrev pub overA : System → (box : List ℤ) → Returned (List ℤ)
-overA = endedA lowestRow singly
+overA = endedA lowestRow once
 
 abbrev pub overB : System → (box : List ℤ) → Returned (List ℤ)
-overB = endedB lowestRow singly
+overB = endedB lowestRow once

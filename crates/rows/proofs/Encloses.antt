@@ -16,7 +16,7 @@ use Rattle.interval.proofs.Corners.{least-first, least-second, least-third, lea
 use Rattle.fraction.specs.Fraction.{Fraction, Inside, millionths, sum, productAt}
 use Rattle.inputs.specs.Place.{at}
 use Rattle.rows.specs.Sum.{exactly, once}
-use Rattle.rows.specs.Exact.{nought, exactRow, Encloses}
+use Rattle.rows.specs.Exact.{nought, exactRow, OnceEncloses}
 use Rattle.rows.proofs.Once.{upper-corners}
 
 -- a, in parts of a unit, lies inside v
@@ -106,7 +106,7 @@ module _ (m : List ℤ) (p : ℕ) (x : List ℤ) (q : ℕ) (c w : ℕ → Fracti
   exactly-parts (suc d) j v a h k i =
       exactly-parts d (j + 1) _ _ (λ t l. h t (omega arith)) (λ t l. k t (omega arith)) (parts-sum i (parts-product (h j (omega arith)) (k j (omega arith))))
 
-pub once-encloses : Encloses once
+pub once-encloses : OnceEncloses
 unfolding once
 once-encloses =
     record { holds = λ m p x q d c w h k. parts-rounded (exactly-parts m p x q c w d 0 _ _ (λ i l. h i (omega arith)) (λ i l. k i (omega arith)) parts-nought) }

@@ -1,5 +1,6 @@
 pub mod Size
 pub mod Sum
-pub mod Enclosed
+pub mod Exact
 pub mod Once
 pub mod Encloses
+pub mod Whole

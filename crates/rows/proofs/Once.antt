@@ -16,6 +16,7 @@ use Rattle.interval.proofs.Range.{scale-above}
 use Rattle.interval.proofs.Corners.{least-ind, greatest-ind, least-first, least-second, least-third, least-fourth, greatest-first, greatest-second, greatest-third, greatest-fourth}
 use Rattle.fraction.specs.Meaning.{Contains}
 use Rattle.inputs.specs.Place.{at}
+use Rattle.rows.proofs.Size.{rounded-order}
 use Rattle.rows.specs.Sum.{summed, singly, exactly, once}
 
 pub upper-corners : (a b c d x y m : ℤ) → a ≤ℤ x → x ≤ℤ b → c ≤ℤ y → y ≤ℤ d → (a *ℤ c) ≤ℤ m → (a *ℤ d) ≤ℤ m → (b *ℤ c) ≤ℤ m → (b *ℤ d) ≤ℤ m → (x *ℤ y) ≤ℤ m
@@ -130,7 +131,5 @@ exactly-order m p x q (suc d) j v h = exactly-order m p x q d (j + 1) _ (go (v .
     go = over 4 _ (λ ρ. simp linear (omega arith))
 
 pub once-order : (m : List ℤ) (p : ℕ) (x : List ℤ) (q d : ℕ) → once m p x q d .lo ≤ℤ once m p x q d .hi
-unfolding once rounded
-once-order m p x q d =
-    let v = exactly m p x q d 0 nought in
-    cancel _ _ scale scale-above (trans (floor-low (v .lo) scale scale-above) (trans (exactly-order m p x q d 0 nought (≤ℤ-refl _)) (ceil-high (v .hi) scale scale-above)))
+unfolding once
+once-order m p x q d = rounded-order (exactly-order m p x q d 0 nought (≤ℤ-refl _))

@@ -1,4 +1,4 @@
--- How large a sum of rounded products can be: each is at most 4·10¹² units.
+-- How large a sum of products can be: each is at most 4·10¹⁸, and rounded at most 4·10¹² units.
 use mathlib.Core.Path.{_≡_}
 use mathlib.Core.Bool.{true}
 use Prim.Native.Nat.{ℕ, _+_, _*_, _≤_}
@@ -9,17 +9,14 @@ use lib.Signed.{_≤ℤ_, leZ-yes}
 use mir.Syntax.{w64}
 use mir.Val.{SFits}
 use Rattle.integer.proofs.Linear.{linear, over}
-use Rattle.integer.proofs.Order.{also, prod, trans}
-use Rattle.integer.proofs.Rounding.{floor-iff, ceil-iff}
+use Rattle.integer.proofs.Order.{also, prod, trans, cancel}
+use Rattle.integer.proofs.Rounding.{floor-low, floor-iff, ceil-high, ceil-iff}
 use Rattle.integer.proofs.Machine.{fits64}
 use Rattle.interval.specs.declared.Interval.{Interval}
 use Rattle.interval.specs.Interval.{scale, lowest, highest, acceptable, exactSum, exactDifference, exactProduct, rounded, productAt, product, zero}
 use Rattle.interval.specs.Code.{Representable}
 use Rattle.interval.proofs.Range.{Within, is-sound, scale-above}
-use Rattle.interval.proofs.Corners.{least-ind, greatest-ind}
-use Rattle.fraction.specs.Fraction.{millionths}
-use Rattle.fraction.proofs.Hull.{hull-order}
-use Rattle.fraction.proofs.Product.{product-hull}
+use Rattle.interval.proofs.Corners.{least-ind, greatest-ind, least-first, greatest-first}
 
 -- ends in sequence, neither further from 0 than k
 pub record Small (k : ℕ) (v : Interval) : Type 0 where
@@ -76,30 +73,49 @@ small-fits {k} {v} b h =
     fit : (k z : ℤ) → k ≤ℤ pos 1000000000000000000 → negℤ k ≤ℤ z → z ≤ℤ k → SFits w64 z
     fit = over 2 _ (λ ρ. simp (fits64, linear, ρ) (omega arith))
 
--- ---- a product
-above : {a b : ℤ} → Within a → Within b → (negℤ (pos 4000000000000) *ℤ scale) ≤ℤ (a *ℤ b)
-unfolding lowest highest scale
+-- ---- a product, unrounded and rounded
+above : {a b : ℤ} → Within a → Within b → negℤ (pos 4000000000000000000) ≤ℤ (a *ℤ b)
+unfolding lowest highest
 above {a} {b} h k = go a b (h .low) (h .high) (k .low) (k .high)
   where
-    go : (a b : ℤ) → negsuc 1999999999 ≤ℤ a → a ≤ℤ pos 2000000000 → negsuc 1999999999 ≤ℤ b → b ≤ℤ pos 2000000000 → (negℤ (pos 4000000000000) *ℤ pos 1000000) ≤ℤ (a *ℤ b)
+    go : (a b : ℤ) → negsuc 1999999999 ≤ℤ a → a ≤ℤ pos 2000000000 → negsuc 1999999999 ≤ℤ b → b ≤ℤ pos 2000000000 → negℤ (pos 4000000000000000000) ≤ℤ (a *ℤ b)
     go = over 2 _ (λ ρ h₁ h₂ k₁ k₂. also (prod h₁ k₁) (also (prod h₁ k₂) (also (prod h₂ k₁) (also (prod h₂ k₂) (simp (linear, ρ) (omega arith))))))
 
-below : {a b : ℤ} → Within a → Within b → (a *ℤ b) ≤ℤ (pos 4000000000000 *ℤ scale)
-unfolding lowest highest scale
+below : {a b : ℤ} → Within a → Within b → (a *ℤ b) ≤ℤ pos 4000000000000000000
+unfolding lowest highest
 below {a} {b} h k = go a b (h .low) (h .high) (k .low) (k .high)
   where
-    go : (a b : ℤ) → negsuc 1999999999 ≤ℤ a → a ≤ℤ pos 2000000000 → negsuc 1999999999 ≤ℤ b → b ≤ℤ pos 2000000000 → (a *ℤ b) ≤ℤ (pos 4000000000000 *ℤ pos 1000000)
+    go : (a b : ℤ) → negsuc 1999999999 ≤ℤ a → a ≤ℤ pos 2000000000 → negsuc 1999999999 ≤ℤ b → b ≤ℤ pos 2000000000 → (a *ℤ b) ≤ℤ pos 4000000000000000000
     go = over 2 _ (λ ρ h₁ h₂ k₁ k₂. also (prod h₁ k₁) (also (prod h₁ k₂) (also (prod h₂ k₁) (also (prod h₂ k₂) (simp (linear, ρ) (omega arith))))))
 
-pub product-small : (x y : Interval) → acceptable x ≡ true → acceptable y ≡ true → Small 4000000000000 (product x y)
-unfolding productAt rounded exactProduct
-product-small x y e f =
+pub exact-product-small : (x y : Interval) → acceptable x ≡ true → acceptable y ≡ true → Small 4000000000000000000 (exactProduct x y)
+unfolding exactProduct
+exact-product-small x y e f =
     let h = is-sound x e in
     let k = is-sound y f in
     record {
-      low = floor-iff _ scale (negℤ (pos 4000000000000)) scale-above .1
-          (least-ind _ _ _ _ (λ z. (negℤ (pos 4000000000000) *ℤ scale) ≤ℤ z) (above (h .lo-in) (k .lo-in)) (above (h .lo-in) (k .hi-in)) (above (h .hi-in) (k .lo-in)) (above (h .hi-in) (k .hi-in)));
-      order = hull-order (product-hull millionths x y) (h .order) (k .order);
-      high = ceil-iff _ scale (pos 4000000000000) scale-above .1
-          (greatest-ind _ _ _ _ (λ z. z ≤ℤ (pos 4000000000000 *ℤ scale)) (below (h .lo-in) (k .lo-in)) (below (h .lo-in) (k .hi-in)) (below (h .hi-in) (k .lo-in)) (below (h .hi-in) (k .hi-in)));
+      low = least-ind _ _ _ _ (λ z. negℤ (pos 4000000000000000000) ≤ℤ z) (above (h .lo-in) (k .lo-in)) (above (h .lo-in) (k .hi-in)) (above (h .hi-in) (k .lo-in)) (above (h .hi-in) (k .hi-in));
+      order = trans (least-first _ _ _ _) (greatest-first _ _ _ _);
+      high = greatest-ind _ _ _ _ (λ z. z ≤ℤ pos 4000000000000000000) (below (h .lo-in) (k .lo-in)) (below (h .lo-in) (k .hi-in)) (below (h .hi-in) (k .lo-in)) (below (h .hi-in) (k .hi-in));
     }
+
+-- ends in sequence stay so
+pub rounded-order : {v : Interval} → v .lo ≤ℤ v .hi → rounded scale v .lo ≤ℤ rounded scale v .hi
+unfolding rounded
+rounded-order {v} h = cancel _ _ scale scale-above (trans (floor-low (v .lo) scale scale-above) (trans h (ceil-high (v .hi) scale scale-above)))
+
+pub rounded-small : (k : ℕ) {v : Interval} → Small (k * 1000000) v → Small k (rounded scale v)
+unfolding rounded scale
+rounded-small k {v} h =
+    record {
+      low = floor-iff (v .lo) (pos 1000000) (negℤ (pos k)) scale-above .1 (turned (pos k) (v .lo) (h .low));
+      order = rounded-order (h .order);
+      high = ceil-iff (v .hi) (pos 1000000) (pos k) scale-above .1 (h .high);
+    }
+  where
+    turned : (k z : ℤ) → negℤ (k *ℤ pos 1000000) ≤ℤ z → (negℤ k *ℤ pos 1000000) ≤ℤ z
+    turned = over 2 _ (λ ρ. simp (linear, ρ) (omega arith))
+
+pub product-small : (x y : Interval) → acceptable x ≡ true → acceptable y ≡ true → Small 4000000000000 (product x y)
+unfolding productAt
+product-small x y e f = rounded-small 4000000000000 (exact-product-small x y e f)

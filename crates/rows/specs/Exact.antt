@@ -5,7 +5,7 @@ use lib.IntN.{ℤ, pos}
 use lib.Signed.{ltZ-yes}
 use Rattle.fraction.specs.Fraction.{Fraction, Inside, millionths, sum, productAt}
 use Rattle.inputs.specs.Place.{at}
-use Rattle.rows.specs.Sum.{RowSum, singly}
+use Rattle.rows.specs.Sum.{RowSum, once}
 
 abbrev pub nought : Fraction
 nought = record { num = pos 0; den = pos 1; above = ltZ-yes tt }
@@ -23,6 +23,6 @@ pub record Encloses (f : RowSum) : Type 0 where
       → ((j : ℕ) → j < d → Inside (at x (q + j)) (w j))
       → Inside (f m p x q d) (exactRow c w d 0 nought)
 
--- 'the row-sum facts once for any n': the sum of singly rounded products does
-abbrev pub SinglyEncloses : Type 0
-SinglyEncloses = Encloses singly
+-- 'the row-sum facts once for any n': the row that is rounded once does
+abbrev pub OnceEncloses : Type 0
+OnceEncloses = Encloses once

@@ -1,2 +1,4 @@
 pub mod Sum
 pub mod Exact
+pub mod Whole
+pub mod Code

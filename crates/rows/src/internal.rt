@@ -1,25 +1,46 @@
 use inputs::internal::read;
 use interval::Interval;
-use interval::internal::product::product;
-use interval::internal::sum;
+use wide_sum::WideInterval;
+use wide_sum::internal::rounding::rounded;
+use wide_sum::internal::sum::nought;
+use wide_sum::internal::sum::with_product;
 ghost use mathlib.Core.Path.{_≡_};
 ghost use Prim.Native.Nat.{_+_, _*_, _≤_};
 ghost use lib.ListN.{length};
 ghost use Rattle.inputs.specs.Code.{Sound};
-ghost use Rattle.rows.specs.Sum.{singly};
+ghost use Rattle.wide_sum.specs.Code.{NearBoth};
+ghost use Rattle.rows.specs.Sum.{once};
+ghost use Rattle.rows.specs.Code.{Summed};
 
-// The sum of the d products of m from position p on with x from position q on, each rounded singly.
-pub fn row_sum(m: &[i64], p: usize, x: &[i64], q: usize, d: usize) -> Interval
+// acc and the d products of m from position p on with x from position q on, unrounded.
+pub fn exact_sum(
+    acc: WideInterval,
+    m: &[i64],
+    p: usize,
+    x: &[i64],
+    q: usize,
+    d: usize,
+) -> WideInterval
+    requires { ⌜ NearBoth 900 acc ⌝ }
     requires { ⌜ Sound (now m) × Sound (now x) ⌝ }
     requires { ⌜ (2 * (p + d) ≤ length (now m)) × (2 * (q + d) ≤ length (now x)) × (d ≤ 32) ⌝ }
-    ensures { λ r. ⌜ r ≡ singly (now (m .entry)) p (now (x .entry)) q d ⌝ }
+    ensures { λ r. ⌜ Summed acc (now (m .entry)) p (now (x .entry)) q d r ⌝ }
 {
-    let mut acc = Interval::ZERO;
+    let mut sum = acc;
     for j in 0..d {
         let a = read(m, p + j);
         let b = read(x, q + j);
-        let v = product(a, b);
-        acc = sum(acc, v);
+        sum = with_product(sum, a, b);
     }
-    acc
+    sum
+}
+
+// The sum of those products, rounded outward once.
+pub fn row_sum(m: &[i64], p: usize, x: &[i64], q: usize, d: usize) -> Interval
+    requires { ⌜ Sound (now m) × Sound (now x) ⌝ }
+    requires { ⌜ (2 * (p + d) ≤ length (now m)) × (2 * (q + d) ≤ length (now x)) × (d ≤ 32) ⌝ }
+    ensures { λ r. ⌜ r ≡ once (now (m .entry)) p (now (x .entry)) q d ⌝ }
+{
+    let sum = exact_sum(nought(), m, p, x, q, d);
+    rounded(sum)
 }

@@ -14,7 +14,7 @@ use Rattle.forward.specs.Pivot.{lowestRow, inPlace}
 use Rattle.forward.specs.Forward.{forward}
 use Rattle.forward.specs.Forward.{table as start}
 use Rattle.elimination.specs.Call.{copied, noneTaken, endedA, overA, overB}
-use Rattle.rows.specs.Sum.{singly}
+use Rattle.rows.specs.Sum.{once}
 use Rattle.sweep.specs.Calls.{sweepCall, call}
 
 -- the numbers of a list of intervals
@@ -127,7 +127,7 @@ table =
     -- Document 000, example 4.1: third pivot [−7.5, −0.5]. With rows and columns 2 and 3 exchanged: 5, place 2, before document 02's A1.
     -- The exchanged sample 'is now accepted there, with third pivot [0.333332, 5]'
     ∷ solves (thirdPivot arrow) 1 (ends (negℤ (pos 7_500_000)) (negℤ (pos 500_000)) ∷ [])
-    ∷ stops (endedA inPlace singly tridiagonal) 3 5 2
+    ∷ stops (endedA inPlace once tridiagonal) 3 5 2
     ∷ solves (thirdPivot tridiagonal) 1 (ends (pos 333_332) (pos 5_000_000) ∷ [])
     ∷ solves (overA tridiagonal) 3 (whole 0 ∷ whole 0 ∷ whole 0 ∷ [])
     -- B, b of the program's input, start [0, 10] twice, 3 allowed: [3, 4.25], [1.5, 2.125], 9, count 3

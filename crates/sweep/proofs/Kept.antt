@@ -21,7 +21,7 @@ use Rattle.inputs.specs.Place.{put}
 use Rattle.inputs.specs.Tests.{tested}
 use Rattle.inputs.specs.System.{System, system}
 use Rattle.inputs.proofs.Early.{Early, parts, early-sizes, early-all, early-number}
-use Rattle.rows.specs.Sum.{RowSum, singly}
+use Rattle.rows.specs.Sum.{RowSum, once}
 use Rattle.sweep.specs.Pass.{component, sweepFrom, sweep, differ}
 use Rattle.sweep.specs.Call.{Log, settled, after, sweeps, last, concluded, allowance, tests}
 use Rattle.sweep.specs.Calls.{Call, sweepCall, runBy, callBy, call}
@@ -81,11 +81,11 @@ unfolding callBy runBy tested ended
 call-keeps s (sweepCall k) x e = go (tests s k x) refl (early-tests s k x) e
   where
     l : Log
-    l = sweeps (s .size) (sweep singly s) k x
+    l = sweeps (s .size) (sweep once s) k x
 
     go : (t : Test) → tests s k x ≡ t → Early t
         → (ended (concluded x) x (tested t (done l)) .number ≡ 0) ⊎ (ended (concluded x) x (tested t (done l)) .number ≡ 9)
         → (1 ≤ s .size) × Ready (s .size) (s .matrix) (s .right) (ended (concluded x) x (tested t (done l)) .left)
-    go Pass f h e = let w = ready s k x f in (fits s k x f .some, sweeps-keep singly (s .size) (s .matrix) (s .right) k x x w w)
+    go Pass f h e = let w = ready s k x f in (fits s k x f .some, sweeps-keep once (s .size) (s .matrix) (s .right) k x x w w)
     go (Fail o) f h (inl e) = absurd (omega (arith, early-number h refl))
     go (Fail o) f h (inr e) = absurd (omega (arith, early-number h refl))

@@ -20,9 +20,9 @@ use Rattle.inputs.specs.System.{System, system}
 use Rattle.inputs.specs.Place.{at, put}
 use Rattle.inputs.specs.Code.{Sound}
 use Rattle.inputs.proofs.Place.{length-put, sound-put, at-put-other}
-use Rattle.rows.specs.Sum.{RowSum, singly}
+use Rattle.rows.specs.Sum.{RowSum, once}
 use Rattle.rows.proofs.Size.{small-fits, sum-small, acceptable-small}
-use Rattle.rows.proofs.Sum.{singly-small}
+use Rattle.rows.proofs.Sum.{once-small}
 use Rattle.sweep.specs.Pass.{component, sweepFrom, sweep, differs, differ}
 use Rattle.sweep.specs.Code.{Ready}
 use Rattle.sweep.proofs.Changed.{differ-self, differ-put}
@@ -48,12 +48,12 @@ not-empty {v} e = left (v .hi) (v .lo) e
 
 -- ---- one component
 module _ {n : ℕ} {m r x : List ℤ} (w : Ready n m r x) (i : ℕ) where
-  pub component-is : {b s o : Interval} → b ≡ at r i → s ≡ singly m (i * n) x 0 n → o ≡ at x i → intersection (exactSum b s) o ≡ component singly (system n m r) x i
+  pub component-is : {b s o : Interval} → b ≡ at r i → s ≡ once m (i * n) x 0 n → o ≡ at x i → intersection (exactSum b s) o ≡ component once (system n m r) x i
   unfolding component
   component-is e f g = λ k. intersection (exactSum (e k) (f k)) (g k)
 
-  pub component-fits : Representable (exactSum (at r i) (singly m (i * n) x 0 n))
-  component-fits = small-fits (omega (arith, w .few)) (sum-small (acceptable-small _ (w .right-sound .each i)) (singly-small m (i * n) x 0 n (w .matrix-sound) (w .box-sound)))
+  pub component-fits : Representable (exactSum (at r i) (once m (i * n) x 0 n))
+  component-fits = small-fits (omega (arith, w .few)) (sum-small (acceptable-small _ (w .right-sound .each i)) (once-small m (i * n) x 0 n (w .matrix-sound) (w .box-sound)))
 
 -- whatever the row sum is: what is not empty is an interval, and the box stays one of intervals
 module _ (sum : RowSum) {n : ℕ} {m r x : List ℤ} (w : Ready n m r x) (i : ℕ) where
@@ -81,7 +81,7 @@ module _ (sum : RowSum) {n : ℕ} {m r x : List ℤ} (w : Ready n m r x) (i : �
 -- ---- a sweep before component i: the box so far, and whether it differs from the one before the sweep
 pub record Halfway (n i : ℕ) (m r x₀ x : List ℤ) (changed : Bool) : Type 0 where
   pub ready : Ready n m r x
-  pub rest : sweep singly (system n m r) x₀ ≡ sweepFrom singly (system n m r) (n - i) i x
+  pub rest : sweep once (system n m r) x₀ ≡ sweepFrom once (system n m r) (n - i) i x
   pub flag : changed ≡ differ x₀ x n 0
   pub old : (j : ℕ) → i ≤ j → at x j ≡ at x₀ j
 
@@ -90,20 +90,20 @@ unfolding sweep
 halfway-start {n} {x = x} w = record { ready = w; rest = rw sub-zero; flag = sym (differ-self x n 0); old = λ j h. refl }
 
 module _ {n i : ℕ} {m r x₀ x : List ℤ} {c : Bool} (w : Halfway n i m r x₀ x c) where
-  pub halfway-end : n ≤ i → done x ≡ sweep singly (system n m r) x₀
-  halfway-end h = sym (w .rest ∙ sweep-end singly (system n m r) i x h)
+  pub halfway-end : n ≤ i → done x ≡ sweep once (system n m r) x₀
+  halfway-end h = sym (w .rest ∙ sweep-end once (system n m r) i x h)
 
-  module _ {v : Interval} (h : i < n) (e : v ≡ component singly (system n m r) x i) where
-    pub halfway-stop : isEmpty v ≡ true → refused (outcome.Empty (i + 1)) ≡ sweep singly (system n m r) x₀
-    halfway-stop f = sym (w .rest ∙ sweep-stop singly (system n m r) i x h (rw e at f))
+  module _ {v : Interval} (h : i < n) (e : v ≡ component once (system n m r) x i) where
+    pub halfway-stop : isEmpty v ≡ true → refused (outcome.Empty (i + 1)) ≡ sweep once (system n m r) x₀
+    halfway-stop f = sym (w .rest ∙ sweep-stop once (system n m r) i x h (rw e at f))
 
     pub halfway-go : {d : Bool} {o : Interval} {y : List ℤ} → isEmpty v ≡ false → o ≡ at x i → d ≡ (c || differs o v) → y ≡ put x i v → Halfway n (i + 1) m r x₀ y d
     halfway-go f g p q =
         let k : 2 * i + 1 < length x = omega (arith, w .ready .box) in
         rw (q, p, g, w .flag)
         (record {
-          ready = rw e (ready-put singly (w .ready) i h (rw e at f));
-          rest = w .rest ∙ rw e (sweep-go singly (system n m r) i x h (rw e at f));
+          ready = rw e (ready-put once (w .ready) i h (rw e at f));
+          rest = w .rest ∙ rw e (sweep-go once (system n m r) i x h (rw e at f));
           flag = rw (w .old i (omega arith)) (sym (differ-put x₀ x i v k (w .old i (omega arith)) n 0 (omega arith) (omega arith)));
           old = λ j l. at-put-other x i j v (omega arith) ∙ w .old j (omega arith);
         })

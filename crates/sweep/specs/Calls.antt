@@ -7,7 +7,7 @@ use lib.IntN.{ℤ}
 use Rattle.outcome.specs.Run.{Run, refused, done, Returned, ended}
 use Rattle.inputs.specs.Tests.{tested}
 use Rattle.inputs.specs.System.{System}
-use Rattle.rows.specs.Sum.{RowSum, singly}
+use Rattle.rows.specs.Sum.{RowSum, once}
 use Rattle.sweep.specs.Pass.{sweep}
 use Rattle.sweep.specs.Call.{Log, stopped, settled, spent, swept, sweeps, tests, concluded}
 
@@ -52,13 +52,13 @@ anyEmptyBy sum s (c ∷ cs) X = eqb (callBy sum s c X .number) 7 || anyEmptyBy s
 
 -- the calls, as they are
 abbrev pub run : System → Call → List ℤ → Run Log
-run = runBy singly
+run = runBy once
 
 abbrev pub call : System → Call → List ℤ → Returned (List ℤ)
-call = callBy singly
+call = callBy once
 
 abbrev pub changes : System → List Call → List ℤ → List Change
-changes = changesBy singly
+changes = changesBy once
 
 abbrev pub anyEmpty : System → List Call → List ℤ → Bool
-anyEmpty = anyEmptyBy singly
+anyEmpty = anyEmptyBy once

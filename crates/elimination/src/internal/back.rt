@@ -11,7 +11,7 @@ ghost use mathlib.Core.Bool.{false};
 ghost use Prim.Native.Nat.{_<_};
 ghost use Rattle.interval.specs.Interval.{containsZero};
 ghost use Rattle.inputs.specs.Place.{at, cell};
-ghost use Rattle.rows.specs.Sum.{singly};
+ghost use Rattle.rows.specs.Sum.{once};
 ghost use Rattle.elimination.specs.Back.{back};
 ghost use Rattle.forward.specs.Code.{Working, Pivots, Ran};
 ghost use Rattle.elimination.specs.Code.{Solved};
@@ -37,7 +37,7 @@ fn unknown(n: usize, i: usize, t: &mut [i64]) -> bool
 // Back-substitution.
 pub fn back(n: usize, t: &mut [i64]) -> Ending
     requires { ⌜ Working n (now t) × Pivots n (now t) ⌝ }
-    ensures { λ r. ⌜ Ran (back singly n n (now (t .entry))) r (now (t .exit)) ⌝ }
+    ensures { λ r. ⌜ Ran (back once n n (now (t .entry))) r (now (t .exit)) ⌝ }
 {
     let mut i = n;
     while 0 < i {

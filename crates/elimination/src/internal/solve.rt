@@ -11,7 +11,7 @@ ghost use lib.ListN.{length};
 ghost use Rattle.inputs.specs.declared.Test.the-variants.{Pass};
 ghost use Rattle.inputs.specs.System.{system, tests};
 ghost use Rattle.inputs.specs.Code.{Ended};
-ghost use Rattle.rows.specs.Sum.{singly};
+ghost use Rattle.rows.specs.Sum.{once};
 ghost use Rattle.outcome.specs.Run.{andThen};
 ghost use Rattle.forward.specs.Pivot.{lowestRow};
 ghost use Rattle.forward.specs.Formed.{formedRows};
@@ -21,7 +21,7 @@ ghost use Rattle.forward.specs.Code.{Working};
 // Eliminates in the working copy and writes the box at the end.
 fn finish(n: usize, t: &mut [i64], bounds: &mut [i64]) -> Outcome
     requires { ⌜ Working n (now t) × (length (now bounds) ≡ 2 * n) ⌝ }
-    ensures { λ r. ⌜ Ended (solved lowestRow singly n (now (t .entry))) r (now (bounds .entry)) (now (bounds .exit)) ⌝ }
+    ensures { λ r. ⌜ Ended (solved lowestRow once n (now (t .entry))) r (now (bounds .entry)) (now (bounds .exit)) ⌝ }
 {
     let mut taken = [0i64; 32];
     let e = forward(n, t, &mut taken);
@@ -40,7 +40,7 @@ fn finish(n: usize, t: &mut [i64], bounds: &mut [i64]) -> Outcome
 pub fn solve(n: usize, a: &[i64], f: &[i64], bounds: &mut [i64]) -> Outcome
     requires { ⌜ tests (system n (now a) (now f)) (length (now bounds)) ≡ Pass ⌝ }
     ensures { λ r. ⌜
-        Ended (solved lowestRow singly n (copied (system n (now (a .entry)) (now (f .entry))))) r (now (bounds .entry)) (now (bounds .exit))
+        Ended (solved lowestRow once n (copied (system n (now (a .entry)) (now (f .entry))))) r (now (bounds .entry)) (now (bounds .exit))
         ⌝ }
 {
     let mut t = [0i64; 2112];
@@ -52,7 +52,7 @@ pub fn solve(n: usize, a: &[i64], f: &[i64], bounds: &mut [i64]) -> Outcome
 pub fn solve_balance(n: usize, b_matrix: &[i64], b: &[i64], bounds: &mut [i64]) -> Outcome
     requires { ⌜ tests (system n (now «b_matrix») (now b)) (length (now bounds)) ≡ Pass ⌝ }
     ensures { λ r. ⌜
-        Ended (andThen (formedRows n n 0 (copied (system n (now («b_matrix» .entry)) (now (b .entry))))) (λ t. solved lowestRow singly n t))
+        Ended (andThen (formedRows n n 0 (copied (system n (now («b_matrix» .entry)) (now (b .entry))))) (λ t. solved lowestRow once n t))
         r (now (bounds .entry)) (now (bounds .exit))
         ⌝ }
 {

@@ -42,7 +42,7 @@ pub fn scaled_up(p: i64) -> i64
 }
 
 // The least of the four products of ends. Unless the left operand lies across 0 the signs tell which it is.
-fn least_product(x: Interval, y: Interval) -> i64
+pub fn least_product(x: Interval, y: Interval) -> i64
     requires { ⌜ acceptable x ≡ true ⌝ }
     requires { ⌜ acceptable y ≡ true ⌝ }
     ensures { λ r. ⌜ r ≡ leastProduct x y ⌝ }
@@ -67,7 +67,7 @@ fn least_product(x: Interval, y: Interval) -> i64
 }
 
 // The greatest of them.
-fn greatest_product(x: Interval, y: Interval) -> i64
+pub fn greatest_product(x: Interval, y: Interval) -> i64
     requires { ⌜ acceptable x ≡ true ⌝ }
     requires { ⌜ acceptable y ≡ true ⌝ }
     ensures { λ r. ⌜ r ≡ greatestProduct x y ⌝ }

@@ -8,7 +8,7 @@ ghost use Prim.Native.Nat.{_*_, _≤_};
 ghost use lib.ListN.{length};
 ghost use Rattle.inputs.specs.declared.Test.the-variants.{Pass};
 ghost use Rattle.inputs.specs.System.{system};
-ghost use Rattle.rows.specs.Sum.{singly};
+ghost use Rattle.rows.specs.Sum.{once};
 ghost use Rattle.sweep.specs.Pass.{sweep};
 ghost use Rattle.sweep.specs.Call.{sweeps, tests};
 ghost use Rattle.sweep.specs.Code.{Ready, Logged, Ran};
@@ -17,7 +17,7 @@ ghost use Rattle.sweep.specs.Code.{Ready, Logged, Ran};
 fn repeat(n: usize, m: &[i64], r: &[i64], x: &mut [i64], allowed: usize) -> Swept
     requires { ⌜ Ready n (now m) (now r) (now x) × (allowed ≤ 10_000) ⌝ }
     ensures { λ s. ⌜
-        Logged (sweeps n (sweep singly (system n (now (m .entry)) (now (r .entry)))) allowed (now (x .entry)))
+        Logged (sweeps n (sweep once (system n (now (m .entry)) (now (r .entry)))) allowed (now (x .entry)))
         (now (x .entry)) s (now (x .exit))
         ⌝ }
 {
@@ -59,7 +59,7 @@ fn tighten(
     requires { ⌜ tests (system n (now m) (now r)) allowed (now bounds) ≡ Pass ⌝ }
     requires { ⌜ length (now x) ≡ 2 * n ⌝ }
     ensures { λ s. ⌜
-        Ran (sweeps n (sweep singly (system n (now (m .entry)) (now (r .entry)))) allowed (now (bounds .entry)))
+        Ran (sweeps n (sweep once (system n (now (m .entry)) (now (r .entry)))) allowed (now (bounds .entry)))
         (now (bounds .entry)) s (now (bounds .exit))
         ⌝ }
 {
@@ -76,7 +76,7 @@ fn tighten(
 pub fn run(n: usize, m: &[i64], r: &[i64], bounds: &mut [i64], allowed: usize) -> Swept
     requires { ⌜ tests (system n (now m) (now r)) allowed (now bounds) ≡ Pass ⌝ }
     ensures { λ s. ⌜
-        Ran (sweeps n (sweep singly (system n (now (m .entry)) (now (r .entry)))) allowed (now (bounds .entry)))
+        Ran (sweeps n (sweep once (system n (now (m .entry)) (now (r .entry)))) allowed (now (bounds .entry)))
         (now (bounds .entry)) s (now (bounds .exit))
         ⌝ }
 {

@@ -9,7 +9,7 @@ ghost use mathlib.Core.Path.{_≡_};
 ghost use mathlib.Core.Bool.{_||_};
 ghost use Prim.Native.Nat.{_<_};
 ghost use Rattle.inputs.specs.System.{system};
-ghost use Rattle.rows.specs.Sum.{singly};
+ghost use Rattle.rows.specs.Sum.{once};
 ghost use Rattle.sweep.specs.Pass.{component, differs, sweep};
 ghost use Rattle.sweep.specs.Code.{Ready, Passed};
 
@@ -22,7 +22,7 @@ pub enum OneSweep {
 // The new component i.
 fn component(n: usize, i: usize, m: &[i64], r: &[i64], x: &[i64]) -> Interval
     requires { ⌜ Ready n (now m) (now r) (now x) × (i < n) ⌝ }
-    ensures { λ v. ⌜ v ≡ component singly (system n (now (m .entry)) (now (r .entry))) (now (x .entry)) i ⌝ }
+    ensures { λ v. ⌜ v ≡ component once (system n (now (m .entry)) (now (r .entry))) (now (x .entry)) i ⌝ }
 {
     let s = row_sum(m, i * n, x, 0, n);
     let b = read(r, i);
@@ -48,7 +48,7 @@ fn moved(earlier: bool, old: Interval, new: Interval) -> bool
 pub fn sweep_once(n: usize, m: &[i64], r: &[i64], x: &mut [i64]) -> OneSweep
     requires { ⌜ Ready n (now m) (now r) (now x) ⌝ }
     ensures { λ p. ⌜
-        Passed (sweep singly (system n (now (m .entry)) (now (r .entry))) (now (x .entry))) n (now (x .entry)) p (now (x .exit))
+        Passed (sweep once (system n (now (m .entry)) (now (r .entry))) (now (x .entry))) n (now (x .entry)) p (now (x .exit))
         ⌝ }
 {
     let mut changed = false;

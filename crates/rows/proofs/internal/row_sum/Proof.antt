@@ -1,95 +1,40 @@
-use mathlib.Core.Path.{_≡_, sym, ap, ap₂, _∙_, subst}
-use Prim.Native.Nat.{ℕ, _+_, _-_, _*_, _≤_}
+use mathlib.Core.Path.{ap, _∙_}
+use Prim.Native.Nat.{_≤_}
 use native.Mathlib.Omega.{arith}
-use native.Mathlib.Nat.{sub-zero}
-use Rattle.interval.specs.Interval.{exactSum, product, zero}
-use Rattle.inputs.specs.Place.{at}
-use Rattle.rows.specs.Sum.{summed, singly}
-use Rattle.rows.proofs.Size.{Small, zero-small, sum-small, small-fits, product-small}
-use Rattle.rows.proofs.Sum.{summed-end, summed-go}
+use borrow.Author.Needs.{needs}
+use Rattle.interval.specs.Interval.{scale, rounded}
+use Rattle.wide_sum.proofs.Near.{near-both-more}
+use Rattle.rows.specs.Sum.{exactly, once}
 use Rattle.rows.proofs.internal.row_sum.Statement.{statement}
 use Rattle.rows.proofs.internal.row_sum.Tie as tie
+use Rattle.rows.proofs.internal.row_sum.Reads as reads
+use Rattle.rows.proofs.internal.row_sum.Lts as lts
+use Rattle.rows.proofs.internal.exact_sum.Reads as exact-sum-reads
+use Rattle.wide_sum.proofs.internal.rounding.rounded.Reads as rounded-reads
+use Rattle.wide_sum.proofs.internal.sum.nought.Reads as nought-reads
 
-abbrev Inv-loop : tie.InvT-loop
-Inv-loop m p x q d acc₀ j₀ acc j =
-    (j ≤ d) × Small (4000000000000 * j) acc × (summed m p x q d 0 zero ≡ summed m p x q (d - j) j acc)
+-- src/internal.rt:44:25
+nought-requires : tie.Need-nought-requires
+nought-requires c κs = search needs
 
-abbrev μ-loop : tie.MeasureT-loop
-μ-loop m p x q d acc₀ j₀ acc j = d - j
+-- src/internal.rt:44:9
+exact-sum-requires : tie.Need-exact-sum-requires
+exact-sum-requires c κs =
+    let s = c .before in
+    (near-both-more (omega arith) (c .nought .ensures .1), (s .pre .0, s .pre .1))
 
-loop-holds : tie.Need-loop-holds Inv-loop μ-loop
-loop-holds c = (
-  omega arith,
-  zero-small,
-  ap (λ (k : ℕ). summed (c .args .m .now) (c .args .p) (c .args .x .now) (c .args .q) k 0 zero) (sym (sub-zero (c .args .d))),
-)
+-- src/internal.rt:45:5
+rounded-requires : tie.Need-rounded-requires
+rounded-requires c κs =
+    let d : c .before .before .args .d ≤ 32 = c .before .before .pre .1 .2 in
+    near-both-more (omega (arith, d)) (c .exact-sum .ensures .near 0 (c .before .nought .ensures .1))
 
-add-read : tie.Need-add-read Inv-loop μ-loop
-add-read c = omega arith
-
-read-requires : tie.Need-read-requires Inv-loop μ-loop
-read-requires c κs = omega arith
-
-add-read-2 : tie.Need-add-read-2 Inv-loop μ-loop
-add-read-2 c = omega arith
-
-read-requires-2 : tie.Need-read-requires-2 Inv-loop μ-loop
-read-requires-2 c κs = omega arith
-
-product-requires : tie.Need-product-requires Inv-loop μ-loop
-product-requires c κs =
-    let s = c .before .before .before .before in
-    (rw (c .before .read .ensures) (s .pre .0 .0 .each _), rw (c .read2 .ensures) (s .pre .0 .1 .each _))
-
--- the product of this turn, and that the sum with it is small
-is : (c : tie.After-product Inv-loop μ-loop) → let l = c .before .before .before .before in let s = l .before in c .product .result ≡ product (at (s .args .m .now) (s .args .p + l .loop .j)) (at (s .args .x .now) (s .args .q + l .loop .j))
-is c = c .product .ensures ∙ ap₂ product (c .before .before .read .ensures) (c .before .read2 .ensures)
-
-more : (c : tie.After-product Inv-loop μ-loop) → let l = c .before .before .before .before in Small (4000000000000 * (l .loop .j + 1)) (exactSum (l .loop .acc) (c .product .result))
-more c =
-    let l = c .before .before .before .before in
-    let s = l .before in
-    let e : 4000000000000 * l .loop .j + 4000000000000 ≡ 4000000000000 * (l .loop .j + 1) = omega arith in
-    subst (λ (k : ℕ). Small k (exactSum (l .loop .acc) (c .product .result))) e
-    (sum-small (l .loop .inv .1) (rw (is c) (product-small _ _ (s .pre .0 .0 .each _) (s .pre .0 .1 .each _))))
-
-sum-requires : tie.Need-sum-requires Inv-loop μ-loop
-sum-requires c κs = small-fits (omega arith) (more c)
-
-add-j : tie.Need-add-j Inv-loop μ-loop
-add-j c = omega arith
-
-loop-less : tie.Need-loop-less Inv-loop μ-loop
-loop-less c = omega arith
-
-loop-again : tie.Need-loop-again Inv-loop μ-loop
-loop-again c =
-    let d = c .before in
-    let t = d .before .before .before in
-    let l = t .before in (
-      omega arith,
-      rw (c .sum .ensures) (more d),
-      l .loop .inv .2 ∙ summed-go _ _ _ _ _ _ _ (t .loop-test .taken) ∙ rw (c .sum .ensures, is d),
-    )
-
-returns : tie.Need-returns Inv-loop μ-loop
-unfolding singly
-returns c = sym (c .before .loop .inv .2 ∙ summed-end _ _ _ _ _ _ _ (c .loop-test .left))
+-- src/internal.rt:39:1
+returns : tie.Need-returns
+unfolding once
+returns c =
+    let s = c .before .before .before .args in
+    c .rounded .ensures ∙ ap (rounded scale) (c .before .exact-sum .ensures .is ∙ ap (exactly (s .m .now) (s .p) (s .x .now) (s .q) (s .d) 0) (c .before .before .nought .ensures .0))
 
 pub row-sum-spec : {M : Type 1} → statement M
-row-sum-spec =
-    tie.close
-    (tie.spec
-    Inv-loop
-    μ-loop
-    loop-holds
-    add-read
-    read-requires
-    add-read-2
-    read-requires-2
-    product-requires
-    sum-requires
-    add-j
-    loop-less
-    loop-again
-    returns)
+row-sum-spec = tie.close (tie.spec nought-requires exact-sum-requires rounded-requires returns)

@@ -4,7 +4,7 @@ use native.Mathlib.Omega.{arith}
 use borrow.Author.Tests.{not-true, not-false}
 use lib.ListN.{length}
 use Rattle.inputs.specs.Code.{Sound}
-use Rattle.rows.specs.Sum.{singly}
+use Rattle.rows.specs.Sum.{once}
 use Rattle.elimination.specs.Back.{back}
 use Rattle.forward.specs.Code.{Pivots}
 use Rattle.elimination.proofs.Back.{back-end, back-go, back-out, pivots-solved}
@@ -13,7 +13,7 @@ use Rattle.elimination.proofs.internal.back.back.Tie as tie
 
 abbrev Inv-loop : tie.InvT-loop
 Inv-loop n t₀ i₀ t i =
-    (i ≤ n) × (length t ≡ length t₀) × Sound t × Pivots n t × (back singly n n t₀ ≡ back singly n i t)
+    (i ≤ n) × (length t ≡ length t₀) × Sound t × Pivots n t × (back once n n t₀ ≡ back once n i t)
 
 abbrev μ-loop : tie.MeasureT-loop
 μ-loop n t₀ i₀ t i = i

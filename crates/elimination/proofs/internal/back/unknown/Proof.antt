@@ -5,7 +5,7 @@ use native.Mathlib.Omega.{arith}
 use borrow.Author.Needs.{needs}
 use Rattle.interval.specs.declared.Interval.{Interval}
 use Rattle.interval.specs.Interval.{acceptable, containsZero, inRange, exactDifference, quotient}
-use Rattle.rows.specs.Sum.{singly}
+use Rattle.rows.specs.Sum.{once}
 use Rattle.elimination.specs.Back.{numerator}
 use Rattle.elimination.specs.Code.{unknown}
 use Rattle.inputs.proofs.Tests.{rows-apart}
@@ -52,7 +52,7 @@ read-requires c κs = search needs
 
 -- the numerator of row i
 abbrev num : tie.Start → Interval
-num s = numerator singly (s .args .n) (s .args .i) (s .args .t .now)
+num s = numerator once (s .args .n) (s .args .i) (s .args .t .now)
 
 -- as the code makes it
 made : (c : tie.After-read) → exactDifference (c .read .result) (c .before .before .row-sum .result) ≡ num (c .before .before .before .before)

@@ -5,7 +5,7 @@ use denote.Ref.{now}
 use lib.IntN.{ℤ}
 use lib.ListN.{length}
 use Rattle.inputs.specs.System.{system}
-use Rattle.rows.specs.Sum.{singly}
+use Rattle.rows.specs.Sum.{once}
 use Rattle.forward.specs.Pivot.{lowestRow}
 use Rattle.elimination.specs.Call.{copied, solved}
 use Rattle.forward.specs.Code.{Working}
@@ -43,7 +43,7 @@ unfolding copied
 returns c =
     let p = c .before .before in
     let s = c .before .before .before .before .before .before .before .before in
-    subst (λ (t : List ℤ). Ended (solved lowestRow singly (s .args .n) t) (p .finish .result) (now (s .args .bounds)) (p .finish .last .1 .1 .0)) (c .before .before .before .before .before .before .copy-in .ensures) (p .finish .ensures)
+    subst (λ (t : List ℤ). Ended (solved lowestRow once (s .args .n) t) (p .finish .result) (now (s .args .bounds)) (p .finish .last .1 .1 .0)) (c .before .before .before .before .before .before .copy-in .ensures) (p .finish .ensures)
 
 pub solve-spec : {M : Type 1} → statement M
 solve-spec =

@@ -5,7 +5,7 @@ use native.Mathlib.Nat.{sub-zero}
 use borrow.Author.Needs.{needs}
 use borrow.Author.Tests.{not-true, not-false}
 use Rattle.inputs.specs.System.{system}
-use Rattle.rows.specs.Sum.{singly}
+use Rattle.rows.specs.Sum.{once}
 use Rattle.sweep.specs.Pass.{sweep}
 use Rattle.sweep.specs.Call.{sweeps}
 use Rattle.sweep.specs.Code.{Ready}
@@ -16,7 +16,7 @@ use Rattle.sweep.proofs.internal.calls.repeat.Tie as tie
 
 abbrev Inv-loop : tie.InvT-loop
 Inv-loop n m r x₀ allowed count₀ x count =
-    (count ≤ allowed) × Ready n m r x × Since (sweeps n (sweep singly (system n m r)) allowed x₀) x₀ count (sweeps n (sweep singly (system n m r)) (allowed - count) x) x
+    (count ≤ allowed) × Ready n m r x × Since (sweeps n (sweep once (system n m r)) allowed x₀) x₀ count (sweeps n (sweep once (system n m r)) (allowed - count) x) x
 
 abbrev μ-loop : tie.MeasureT-loop
 μ-loop n m r x₀ allowed count₀ x count = allowed - count

@@ -6,7 +6,7 @@ use denote.Ref.{now}
 use lib.IntN.{ℤ}
 use lib.ListN.{length}
 use Rattle.inputs.specs.System.{system}
-use Rattle.rows.specs.Sum.{singly}
+use Rattle.rows.specs.Sum.{once}
 use Rattle.sweep.specs.Pass.{sweep}
 use Rattle.sweep.specs.Call.{sweeps}
 use Rattle.sweep.specs.Code.{Ready, Logged}
@@ -41,7 +41,7 @@ start c = c .before .before .before .before .before .before
 
 logged : (c : tie.After-repeat) →
     let a = start c .args in
-    Logged (sweeps (a .n) (sweep singly (system (a .n) (now (a .m)) (now (a .r)))) (a .allowed) (now (a .bounds))) (now (a .bounds)) (c .repeat .result) (c .repeat .last .1 .1 .1 .0)
+    Logged (sweeps (a .n) (sweep once (system (a .n) (now (a .m)) (now (a .r)))) (a .allowed) (now (a .bounds))) (now (a .bounds)) (c .repeat .result) (c .repeat .last .1 .1 .1 .0)
 logged c = logged-from _ _ _ (copied (c .before .before .before)) (c .repeat .ensures)
 
 -- the box after the sweeps is as long as the lent one

@@ -1,0 +1,5 @@
+pub mod Near
+pub mod Carry
+pub mod Lowered
+pub mod Product
+pub mod Parts

@@ -1,0 +1,2 @@
+pub mod rounding;
+pub mod sum;
