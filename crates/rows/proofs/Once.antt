@@ -118,18 +118,33 @@ module _ (m : List ℤ) (p : ℕ) (x : List ℤ) (q : ℕ) (m′ x′ : List ℤ
   unfolding singly once
   once-inside d h k = scaled-rounded (scaled-row d 0 _ _ (λ i l. h i (omega arith)) (λ i l. k i (omega arith)) scaled-zero)
 
--- ---- a row that is rounded once has its ends in sequence
-product-order : (x y : Interval) → leastProduct x y ≤ℤ greatestProduct x y
+-- ---- either row sum has its ends in sequence
+product-order : (x y : Interval) → exactProduct x y .lo ≤ℤ exactProduct x y .hi
+unfolding exactProduct
 product-order x y = trans (least-first _ _ _ _) (greatest-first _ _ _ _)
 
-exactly-order : (m : List ℤ) (p : ℕ) (x : List ℤ) (q d j : ℕ) (v : Interval) → v .lo ≤ℤ v .hi → exactly m p x q d j v .lo ≤ℤ exactly m p x q d j v .hi
-unfolding exactly exactSum exactProduct
-exactly-order m p x q zero j v h = h
-exactly-order m p x q (suc d) j v h = exactly-order m p x q d (j + 1) _ (go (v .lo) (v .hi) _ _ h (product-order (at m (p + j)) (at x (q + j))))
+sum-order : (v w : Interval) → v .lo ≤ℤ v .hi → w .lo ≤ℤ w .hi → exactSum v w .lo ≤ℤ exactSum v w .hi
+unfolding exactSum
+sum-order v w h k = go (v .lo) (v .hi) (w .lo) (w .hi) h k
   where
     go : (a b c d : ℤ) → a ≤ℤ b → c ≤ℤ d → (a +ℤ c) ≤ℤ (b +ℤ d)
     go = over 4 _ (λ ρ. simp linear (omega arith))
 
-pub once-order : (m : List ℤ) (p : ℕ) (x : List ℤ) (q d : ℕ) → once m p x q d .lo ≤ℤ once m p x q d .hi
-unfolding once
-once-order m p x q d = rounded-order (exactly-order m p x q d 0 nought (≤ℤ-refl _))
+module _ (m : List ℤ) (p : ℕ) (x : List ℤ) (q : ℕ) where
+  exactly-order : (d j : ℕ) (v : Interval) → v .lo ≤ℤ v .hi → exactly m p x q d j v .lo ≤ℤ exactly m p x q d j v .hi
+  unfolding exactly
+  exactly-order zero j v h = h
+  exactly-order (suc d) j v h = exactly-order d (j + 1) _ (sum-order v _ h (product-order (at m (p + j)) (at x (q + j))))
+
+  summed-order : (d j : ℕ) (v : Interval) → v .lo ≤ℤ v .hi → summed m p x q d j v .lo ≤ℤ summed m p x q d j v .hi
+  unfolding summed productAt
+  summed-order zero j v h = h
+  summed-order (suc d) j v h = summed-order d (j + 1) _ (sum-order v _ h (rounded-order (product-order (at m (p + j)) (at x (q + j)))))
+
+  pub once-order : (d : ℕ) → once m p x q d .lo ≤ℤ once m p x q d .hi
+  unfolding once
+  once-order d = rounded-order (exactly-order d 0 nought (≤ℤ-refl _))
+
+  pub singly-order : (d : ℕ) → singly m p x q d .lo ≤ℤ singly m p x q d .hi
+  unfolding singly
+  singly-order d = summed-order d 0 nought (≤ℤ-refl _)

@@ -1,0 +1,11 @@
+pub mod Narrow
+pub mod Working
+pub mod Back
+pub mod Elimination
+pub mod Boxes
+pub mod Inner
+pub mod Pass
+pub mod After
+pub mod Calls
+pub mod Inside
+pub mod Example
