@@ -1,5 +1,5 @@
 -- A wide number in whole scales and a part, and its floor and ceiling from them.
-use mathlib.Core.Path.{_≡_, sym, ap, _∙_}
+use mathlib.Core.Path.{_≡_, sym, ap, ap₂, _∙_}
 use Prim.Native.Nat.{ℕ, _+_, _*_, _/_, _%_, _^_, _≤_, _<_}
 use native.Mathlib.Omega.{arith}
 use lib.Dec.{le→leb}
@@ -58,23 +58,23 @@ module _ {w : Wide} (n : Near 1000 w) {k m b : ℕ} (kb : k ≤ b) (mb : m ≤ b
   with-rest-read =
       rw (toZ-ofZ w64 (w .high) (high-fits n), toZ-ofZ w64 (w .high *ℤ pos k) product-fits, toZ-pos w64 m (omega arith)) (toZ-ofZ w64 (w .high *ℤ pos k +ℤ pos m) sum-fits)
 
--- 2^64 is 18,446,744,073,709 scales and 551,616
-pub parted-is : {w : Wide} → Near 1000 w → w .low < 2 ^ 64 → {r : Parts} → r .whole ≡ w .high *ℤ pos 18446744073709 +ℤ pos (w .low / 1000000) →
-    r .part ≡ w .high *ℤ pos 551616 +ℤ pos (w .low % 1000000) → Parted w r
+-- 2^64 is k scales and l
+pub parted-is : {w : Wide} → Near 1000 w → w .low < 2 ^ 64 → (k l : ℕ) {r : Parts} → r .whole ≡ w .high *ℤ pos k +ℤ pos (w .low / 1000000) →
+    r .part ≡ w .high *ℤ pos l +ℤ pos (w .low % 1000000) → k * 1000000 + l ≡ 2 ^ 64 → l ≤ 2000000 → Parted w r
 unfolding held scale
-parted-is {w} n b {r} e f =
+parted-is {w} n b k l {r} e f two few =
     rw (e, f)
     (record {
-      is = split (w .high) (pos (w .low / 1000000)) (pos (w .low % 1000000)) ∙ ap (λ (z : ℕ). w .high *ℤ pos (2 ^ 64) +ℤ pos z) (sym whole);
-      whole-small = scaled-bounded n {b = 20000000000000} (omega arith) (omega (arith, b)) (omega arith);
-      part-small = scaled-bounded n {b = 1000000} (omega arith) (omega arith) (omega arith);
+      is = split (w .high) (pos k) (pos l) (pos (w .low / 1000000)) (pos (w .low % 1000000)) ∙ ap₂ (λ (y z : ℕ). w .high *ℤ pos y +ℤ pos z) two (sym whole);
+      whole-small = scaled-bounded n {b = 20000000000000} (omega (arith, two)) (omega (arith, b)) (omega arith);
+      part-small = scaled-bounded n {b = 2000000} few (omega arith) (omega arith);
     })
   where
     whole : w .low ≡ w .low / 1000000 * 1000000 + w .low % 1000000
     whole = omega arith
 
-    split : (h q r : ℤ) → ((h *ℤ pos 18446744073709 +ℤ q) *ℤ pos 1000000 +ℤ (h *ℤ pos 551616 +ℤ r)) ≡ (h *ℤ pos 18446744073709551616 +ℤ (q *ℤ pos 1000000 +ℤ r))
-    split = over 3 _ (λ ρ. simp (reading, read-pos, ρ) (ring _ _ _ tt))
+    split : (h k l q r : ℤ) → ((h *ℤ k +ℤ q) *ℤ pos 1000000 +ℤ (h *ℤ l +ℤ r)) ≡ (h *ℤ (k *ℤ pos 1000000 +ℤ l) +ℤ (q *ℤ pos 1000000 +ℤ r))
+    split = over 5 _ (λ ρ. simp (reading, read-pos, ρ) (ring _ _ _ tt))
 
 -- ---- floor and ceiling
 module _ (a b s : ℤ) (h : pos 0 <ℤ s) where
@@ -100,7 +100,7 @@ module _ (a b s : ℤ) (h : pos 0 <ℤ s) where
 rounded-fits : {w : Wide} {r : Parts} → Parted w r → (f : ℤ) → (f *ℤ pos 1000000 -ℤ pos 1000000) <ℤ r .part → r .part <ℤ (f *ℤ pos 1000000 +ℤ pos 1000000) → SFits w64 (r .whole +ℤ f)
 rounded-fits {w} {r} p f l u = go (r .whole) (r .part) f (p .whole-small .0) (p .whole-small .1) (p .part-small .0) (p .part-small .1) l u
   where
-    go : (a b f : ℤ) → negℤ (pos 20020000000000000) ≤ℤ a → a ≤ℤ pos 20020000000000000 → negℤ (pos 1001000000) ≤ℤ b → b ≤ℤ pos 1001000000 →
+    go : (a b f : ℤ) → negℤ (pos 20020000000000000) ≤ℤ a → a ≤ℤ pos 20020000000000000 → negℤ (pos 2002000000) ≤ℤ b → b ≤ℤ pos 2002000000 →
         (f *ℤ pos 1000000 -ℤ pos 1000000) <ℤ b → b <ℤ (f *ℤ pos 1000000 +ℤ pos 1000000) → SFits w64 (a +ℤ f)
     go = over 3 _ (λ ρ. simp (fits64, linear, ρ) (omega arith))
 
@@ -114,7 +114,7 @@ module _ {w : Wide} {r : Parts} (p : Parted w r) where
   part-plain : toZ w64 (ofZ w64 (r .part)) ≡ r .part
   part-plain = toZ-ofZ w64 _ (go (r .part) (p .part-small .0) (p .part-small .1))
     where
-      go : (a : ℤ) → negℤ (pos 1001000000) ≤ℤ a → a ≤ℤ pos 1001000000 → SFits w64 a
+      go : (a : ℤ) → negℤ (pos 2002000000) ≤ℤ a → a ≤ℤ pos 2002000000 → SFits w64 a
       go = over 1 _ (λ ρ. simp (fits64, linear, ρ) (omega arith))
 
   floor-fits : SFits w64 (r .whole +ℤ floorDiv (r .part) scale)

@@ -38,4 +38,4 @@ pub record AddedBoth (v : WideInterval) (p : Interval) (r : WideInterval) : Type
 pub record Parted (w : Wide) (r : Parts) : Type 0 where
   pub is : r .whole *ℤ scale +ℤ r .part ≡ held w
   pub whole-small : (negℤ (pos 20_020_000_000_000_000) ≤ℤ r .whole) × (r .whole ≤ℤ pos 20_020_000_000_000_000)
-  pub part-small : (negℤ (pos 1_001_000_000) ≤ℤ r .part) × (r .part ≤ℤ pos 1_001_000_000)
+  pub part-small : (negℤ (pos 2_002_000_000) ≤ℤ r .part) × (r .part ≤ℤ pos 2_002_000_000)

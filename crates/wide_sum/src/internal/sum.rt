@@ -21,14 +21,8 @@ pub fn nought() -> WideInterval
     ensures { λ r. ⌜ (heldBoth r ≡ zero) × NearBoth 0 r ⌝ }
 {
     WideInterval {
-        lo: Wide {
-            high: 0,
-            low: 0,
-        },
-        hi: Wide {
-            high: 0,
-            low: 0,
-        },
+        lo: Wide { high: 0, low: 0 },
+        hi: Wide { high: 0, low: 0 },
     }
 }
 

@@ -24,7 +24,7 @@ add-whole c = with-rest-safe (c .before .pre) {m = c .before .args .w .low / 100
 
 -- src/internal/rounding.rt:32:16
 mul-part : tie.Need-mul-part
-mul-part c = scaled-safe (c .before .pre) {m = 0} {b = 1000000} (omega arith) (omega arith) (omega arith)
+mul-part c = scaled-safe (c .before .pre) {m = 0} {b = 2000000} (omega arith) (omega arith) (omega arith)
 
 -- src/internal/rounding.rt:32:30
 cast-part : tie.Need-cast-part
@@ -32,14 +32,15 @@ cast-part c = search needs
 
 -- src/internal/rounding.rt:32:16
 add-part : tie.Need-add-part
-add-part c = with-rest-safe (c .before .pre) {m = c .before .args .w .low % 1000000} {b = 1000000} (omega arith) (omega arith) (omega arith)
+add-part c = with-rest-safe (c .before .pre) {m = c .before .args .w .low % 1000000} {b = 2000000} (omega arith) (omega arith) (omega arith)
 
 -- src/internal/rounding.rt:25:1
 returns : tie.Need-returns
 returns c =
-    parted-is (c .before .pre) (small c)
+    parted-is (c .before .pre) (small c) _ _
     (with-rest-read (c .before .pre) {b = 20000000000000} (omega arith) (omega (arith, small c)) (omega arith))
-    (with-rest-read (c .before .pre) {b = 1000000} (omega arith) (omega arith) (omega arith))
+    (with-rest-read (c .before .pre) {b = 2000000} (omega arith) (omega arith) (omega arith))
+    (omega arith) (omega arith)
 
 pub parted-spec : {M : Type 1} → statement M
 parted-spec =

@@ -18,12 +18,12 @@ add-t6 c = one-more-safe (c .before .before .before .pre)
 -- src/internal/sum.rt:43:9
 returns : tie.Need-returns
 returns c =
-    raised-carry (c .before .before .before .pre) (omega arith) (omega arith) (c .before .before .wrapping-add-u64 .ensures) (omega (arith, c .if1 .taken))
+    raised-carry (c .before .before .before .pre) (omega arith) (omega arith) (c .before .before .wrapping-add-u64 .ensures) (omega (arith, c .before .before .wrapping-add-u64 .ensures, c .if1 .taken))
 
 -- src/internal/sum.rt:36:1
 returns-2 : tie.Need-returns-2
 returns-2 c =
-    raised-none (c .before .before .before .pre) (omega arith) (omega arith) (c .before .before .wrapping-add-u64 .ensures) (omega (arith, c .if1 .left))
+    raised-none (c .before .before .before .pre) (omega arith) (omega arith) (c .before .before .wrapping-add-u64 .ensures) (omega (arith, c .before .before .wrapping-add-u64 .ensures, c .if1 .left))
 
 pub raised-spec : {M : Type 1} → statement M
 raised-spec = tie.close (tie.spec wrapping-add-u64-requires add-t6 returns returns-2)

@@ -1,6 +1,8 @@
 use mathlib.Core.Path.{sym, subst, _∙_}
-use lib.IntN.{pos}
+use lib.IntN.{pos, negsuc}
 use lib.Signed.{_≤ℤ_}
+use mir.Syntax.{w64}
+use mir.Val.{toZ, ofZ}
 use borrow.Author.Needs.{needs}
 use Rattle.integer.proofs.Order.{trans}
 use Rattle.integer.proofs.Machine.{plain}
@@ -88,17 +90,22 @@ least-product-requires c κs = search needs
 greatest-product-requires : tie.Need-greatest-product-requires
 greatest-product-requires c κs = search needs
 
+-- neither is too low to be added
+least-low : (c : tie.After-least-product) → negsuc 3999999999999999999 ≤ℤ toZ w64 (ofZ w64 (c .least-product .result))
+least-low c =
+    let s = c .before .before .before .before .before .before in
+    rw (plain _ (c .least-product .ok), c .least-product .ensures) (least-bounded (y-sound s) (x-sound s) .0)
+
+greatest-low : (c : tie.After-greatest-product) → negsuc 3999999999999999999 ≤ℤ toZ w64 (ofZ w64 (c .greatest-product .result))
+greatest-low c = let s = other c in rw (plain _ (c .greatest-product .ok), c .greatest-product .ensures) (greatest-bounded (y-sound s) (x-sound s) .0)
+
 -- src/internal/sum.rt:99:13
 added-requires : tie.Need-added-requires
-added-requires c κs =
-    let s = other c in
-    (s .pre .0 .lo-near, rw (plain _ (c .before .least-product .ok), c .before .least-product .ensures) (least-bounded (y-sound s) (x-sound s) .0))
+added-requires c κs = (other c .pre .0 .lo-near, search (least-low (c .before), greatest-low c))
 
 -- src/internal/sum.rt:100:13
 added-requires-2 : tie.Need-added-requires-2
-added-requires-2 c κs =
-    let s = other (c .before) in
-    (s .pre .0 .hi-near, rw (plain _ (c .before .greatest-product .ok), c .before .greatest-product .ensures) (greatest-bounded (y-sound s) (x-sound s) .0))
+added-requires-2 c κs = (other (c .before) .pre .0 .hi-near, search (least-low (c .before .before), greatest-low (c .before)))
 
 -- src/internal/sum.rt:80:1
 returns-2 : tie.Need-returns-2
