@@ -1,13 +1,12 @@
 -- A row that is rounded once encloses the exact sum, for any number of products.
-use mathlib.Core.Path.{_≡_, subst}
 use mathlib.Core.List.{List}
 use Prim.Native.Nat.{ℕ, zero, suc, _+_, _<_}
 use native.Mathlib.Omega.{arith}
 use lib.IntN.{ℤ, pos, _+ℤ_, _*ℤ_}
-use lib.Signed.{_≤ℤ_, _<ℤ_, ≤ℤ-refl}
+use lib.Signed.{_≤ℤ_, _<ℤ_}
 use Rattle.integer.specs.Rounding.{floorDiv, ceilDiv}
 use Rattle.integer.proofs.Linear.{linear, over}
-use Rattle.integer.proofs.Order.{also, prod, lt-le, trans, cancel, corners, mono}
+use Rattle.integer.proofs.Order.{also, prod, lt-le, cancel, corners}
 use Rattle.integer.proofs.Rounding.{floor-low, ceil-high}
 use Rattle.interval.specs.declared.Interval.{Interval}
 use Rattle.interval.specs.Interval.{scale, leastProduct, greatestProduct, exactSum, exactProduct, rounded, zero as noughtInterval}

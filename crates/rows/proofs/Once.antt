@@ -1,17 +1,15 @@
 -- A row that is rounded once lies inside one whose products are rounded singly, also if it is taken of narrower intervals; its ends are in
 -- sequence.
-use mathlib.Core.Path.{_≡_, sym, ap₂}
 use mathlib.Core.List.{List}
 use Prim.Native.Nat.{ℕ, zero, suc, _+_, _<_}
 use native.Mathlib.Omega.{arith}
 use lib.IntN.{ℤ, pos, negℤ, _+ℤ_, _*ℤ_}
 use lib.Signed.{_≤ℤ_, ≤ℤ-refl}
-use Rattle.integer.specs.Rounding.{floorDiv, ceilDiv}
 use Rattle.integer.proofs.Linear.{linear, over}
-use Rattle.integer.proofs.Order.{trans, corners, cancel}
+use Rattle.integer.proofs.Order.{trans, corners}
 use Rattle.integer.proofs.Rounding.{floor-low, floor-iff, ceil-high, ceil-iff}
 use Rattle.interval.specs.declared.Interval.{Interval}
-use Rattle.interval.specs.Interval.{scale, greatest, leastProduct, greatestProduct, exactSum, exactProduct, rounded, productAt, product, zero as nought}
+use Rattle.interval.specs.Interval.{scale, leastProduct, greatestProduct, exactSum, exactProduct, rounded, productAt, product, zero as nought}
 use Rattle.interval.proofs.Range.{scale-above}
 use Rattle.interval.proofs.Corners.{least-ind, greatest-ind, least-first, least-second, least-third, least-fourth, greatest-first, greatest-second, greatest-third, greatest-fourth}
 use Rattle.fraction.specs.Meaning.{Contains}

@@ -9,7 +9,7 @@ use lib.ListN.{replicate}
 use Rattle.fraction.specs.Fraction.{Fraction}
 use Rattle.inputs.specs.System.{System}
 use Rattle.elimination.specs.Call.{overB}
-use Rattle.sweep.specs.Calls.{sweepCall, run, call, Change, sweepsOf, changesBy, changes}
+use Rattle.sweep.specs.Calls.{sweepCall, run, Change, sweepsOf, changesBy}
 use Rattle.accuracy.specs.Solution.{Solution}
 use Rattle.accuracy.specs.Claim.{fromB, Bounded, Every}
 use Rattle.accuracy.proofs.Rule.{accuracy}

@@ -1,18 +1,17 @@
 -- What a carry, or a 2^64 that goes off again, makes of a wide number; and that its high word fits.
 use mathlib.Core.Path.{_≡_, sym, ap, _∙_}
-use Prim.Native.Nat.{ℕ, suc, _+_, _%_, _^_, _≤_, _<_}
+use Prim.Native.Nat.{ℕ, _+_, _%_, _^_, _≤_, _<_}
 use native.Mathlib.Omega.{arith}
-use lib.IntN.{ℤ, pos, negsuc, negℤ, natAbs, _+ℤ_, _-ℤ_, _*ℤ_}
-use lib.Signed.{_≤ℤ_, _<ℤ_, leZ-yes, ≤ℤ-refl}
+use lib.IntN.{ℤ, pos, negℤ, _+ℤ_, _*ℤ_}
+use lib.Signed.{_≤ℤ_, leZ-yes, ≤ℤ-refl}
 use mir.Syntax.{w64}
 use mir.Val.{SFits, toZ, ofZ}
 use mir.ValLaws.{toZ-ofZ}
 use Rattle.integer.proofs.Linear.{reading, read-pos, linear, ring, over}
-use Rattle.integer.proofs.Order.{also}
-use Rattle.integer.proofs.Machine.{fits64, op-safe, op-read}
+use Rattle.integer.proofs.Machine.{fits64}
 use Rattle.wide_sum.specs.declared.Wide.{Wide}
 use Rattle.wide_sum.specs.Wide.{held}
-use Rattle.wide_sum.specs.Code.{Near, Raised, Added}
+use Rattle.wide_sum.specs.Code.{Near, Raised}
 
 -- ---- the high word
 near-fits : {w : Wide} → Near 1000 w → (d : ℤ) → negℤ (pos 1) ≤ℤ d → d ≤ℤ pos 1 → SFits w64 (w .high +ℤ d)

@@ -1,15 +1,13 @@
 -- Adding the product of two intervals to both ends.
-use mathlib.Core.Path.{_≡_, sym, ap₂, subst, _∙_}
-use Prim.Native.Nat.{ℕ, _+_}
+use mathlib.Core.Path.{_≡_, subst, _∙_}
 use native.Mathlib.Omega.{arith}
-use lib.IntN.{ℤ, pos, natAbs, _+ℤ_, _*ℤ_, *ℤ-comm}
+use lib.IntN.{ℤ, pos, natAbs, _*ℤ_, *ℤ-comm}
 use lib.Dec.{T}
 use lib.Signed.{_≤ℤ_, nonNeg}
 use mir.Syntax.{w64}
-use mir.Val.{Fits, SFits, toZ, ofZ}
-use mir.ValLaws.{toZ-ofZ}
+use mir.Val.{Fits, toZ, ofZ}
 use Rattle.integer.proofs.Linear.{linear, over}
-use Rattle.integer.proofs.Order.{also, prod, trans, antisym}
+use Rattle.integer.proofs.Order.{also, prod, antisym}
 use Rattle.integer.proofs.Machine.{natural-cast}
 use Rattle.interval.specs.declared.Interval.{Interval}
 use Rattle.interval.specs.Interval.{least, greatest, leastProduct, greatestProduct, exactSum, exactProduct}
@@ -17,8 +15,8 @@ use Rattle.interval.proofs.Corners.{least-ind, greatest-ind, least-first, least
 use Rattle.interval.proofs.Range.{Within, product-fits, read}
 use Rattle.wide_sum.specs.declared.Wide.{Wide}
 use Rattle.wide_sum.specs.declared.WideInterval.{WideInterval}
-use Rattle.wide_sum.specs.Wide.{held, heldBoth}
-use Rattle.wide_sum.specs.Code.{Near, NearBoth, Raised, Added, AddedBoth}
+use Rattle.wide_sum.specs.Wide.{heldBoth}
+use Rattle.wide_sum.specs.Code.{Raised, Added, AddedBoth}
 use Rattle.wide_sum.proofs.Lowered.{raised-is}
 
 pub both-added : {v r : WideInterval} (x y : Interval) → Added (v .lo) (leastProduct x y) (r .lo) → Added (v .hi) (greatestProduct x y) (r .hi) → AddedBoth v (exactProduct x y) r

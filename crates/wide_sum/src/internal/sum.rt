@@ -8,7 +8,7 @@ ghost use mathlib.Core.Bool.{true};
 ghost use lib.IntN.{pos, negsuc};
 ghost use lib.Signed.{_≤ℤ_, _<ℤ_};
 ghost use Rattle.interval.specs.Interval.{zero, acceptable, exactProduct};
-ghost use Rattle.wide_sum.specs.Wide.{held, heldBoth};
+ghost use Rattle.wide_sum.specs.Wide.{heldBoth};
 ghost use Rattle.wide_sum.specs.Code.{Near, NearBoth, Raised, Added, AddedBoth};
 
 // Lifts a product of two ends to 0 or more, and what 2^64 is more than it.

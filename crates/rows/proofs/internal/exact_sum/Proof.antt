@@ -9,10 +9,6 @@ use Rattle.rows.specs.Sum.{exactly}
 use Rattle.rows.proofs.Exact.{exactly-end, exactly-go}
 use Rattle.rows.proofs.internal.exact_sum.Statement.{statement}
 use Rattle.rows.proofs.internal.exact_sum.Tie as tie
-use Rattle.rows.proofs.internal.exact_sum.Reads as reads
-use Rattle.rows.proofs.internal.exact_sum.Lts as lts
-use Rattle.inputs.proofs.internal.read.Reads as read-reads
-use Rattle.wide_sum.proofs.internal.sum.with_product.Reads as with-product-reads
 
 abbrev Inv-loop : tie.InvT-loop
 Inv-loop m p x q d sum₀ j₀ sum j =
@@ -21,7 +17,6 @@ Inv-loop m p x q d sum₀ j₀ sum j =
 abbrev μ-loop : tie.MeasureT-loop
 μ-loop m p x q d sum₀ j₀ sum j = d - j
 
--- src/internal.rt:30:5
 loop-holds : tie.Need-loop-holds Inv-loop μ-loop
 loop-holds c = (
   omega arith,
@@ -29,23 +24,18 @@ loop-holds c = (
   ap (λ (k : ℕ). exactly (c .args .m .now) (c .args .p) (c .args .x .now) (c .args .q) k 0 (heldBoth (c .args .acc))) (sym (sub-zero (c .args .d))),
 )
 
--- src/internal.rt:31:25
 add-read : tie.Need-add-read Inv-loop μ-loop
 add-read c = omega arith
 
--- src/internal.rt:31:13
 read-requires : tie.Need-read-requires Inv-loop μ-loop
 read-requires c κs = omega arith
 
--- src/internal.rt:32:25
 add-read-2 : tie.Need-add-read-2 Inv-loop μ-loop
 add-read-2 c = omega arith
 
--- src/internal.rt:32:13
 read-requires-2 : tie.Need-read-requires-2 Inv-loop μ-loop
 read-requires-2 c κs = omega arith
 
--- src/internal.rt:33:9
 with-product-requires : tie.Need-with-product-requires Inv-loop μ-loop
 with-product-requires c κs =
     let l = c .before .before .before in
@@ -55,15 +45,12 @@ with-product-requires c κs =
       rw (c .read2 .ensures) (s .pre .1 .0 .1 .each _),
     )
 
--- src/internal.rt:30:9
 add-j : tie.Need-add-j Inv-loop μ-loop
 add-j c = omega arith
 
--- src/internal.rt:30:5
 loop-less : tie.Need-loop-less Inv-loop μ-loop
 loop-less c = omega arith
 
--- src/internal.rt:30:5
 loop-again : tie.Need-loop-again Inv-loop μ-loop
 loop-again c =
     let b = c .before in
@@ -74,7 +61,6 @@ loop-again c =
       l .loop .inv .2 ∙ exactly-go _ _ _ _ _ _ _ (t .loop-test .taken) ∙ rw (c .with-product .ensures .is, b .before .read .ensures, b .read2 .ensures),
     )
 
--- src/internal.rt:16:1
 returns : tie.Need-returns Inv-loop μ-loop
 returns c =
     let l = c .before .loop in

@@ -7,29 +7,20 @@ use Rattle.wide_sum.proofs.Near.{near-both-more}
 use Rattle.rows.specs.Sum.{exactly, once}
 use Rattle.rows.proofs.internal.row_sum.Statement.{statement}
 use Rattle.rows.proofs.internal.row_sum.Tie as tie
-use Rattle.rows.proofs.internal.row_sum.Reads as reads
-use Rattle.rows.proofs.internal.row_sum.Lts as lts
-use Rattle.rows.proofs.internal.exact_sum.Reads as exact-sum-reads
-use Rattle.wide_sum.proofs.internal.rounding.rounded.Reads as rounded-reads
-use Rattle.wide_sum.proofs.internal.sum.nought.Reads as nought-reads
 
--- src/internal.rt:44:25
 nought-requires : tie.Need-nought-requires
 nought-requires c κs = search needs
 
--- src/internal.rt:44:9
 exact-sum-requires : tie.Need-exact-sum-requires
 exact-sum-requires c κs =
     let s = c .before in
     (near-both-more (omega arith) (c .nought .ensures .1), (s .pre .0, s .pre .1))
 
--- src/internal.rt:45:5
 rounded-requires : tie.Need-rounded-requires
 rounded-requires c κs =
     let d : c .before .before .args .d ≤ 32 = c .before .before .pre .1 .2 in
     near-both-more (omega (arith, d)) (c .exact-sum .ensures .near 0 (c .before .nought .ensures .1))
 
--- src/internal.rt:39:1
 returns : tie.Need-returns
 unfolding once
 returns c =

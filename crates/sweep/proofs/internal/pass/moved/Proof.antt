@@ -1,4 +1,3 @@
-use mathlib.Core.Path.{sym}
 use mir.Syntax.{w64}
 use mir.Val.{SFits}
 use borrow.Author.Needs.{needs}

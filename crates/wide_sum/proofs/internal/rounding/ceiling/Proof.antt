@@ -4,27 +4,19 @@ use Rattle.interval.specs.Interval.{scale}
 use Rattle.wide_sum.proofs.Parts.{ceil-safe, ceil-read}
 use Rattle.wide_sum.proofs.internal.rounding.ceiling.Statement.{statement}
 use Rattle.wide_sum.proofs.internal.rounding.ceiling.Tie as tie
-use Rattle.wide_sum.proofs.internal.rounding.ceiling.Reads as reads
-use Rattle.wide_sum.proofs.internal.rounding.ceiling.Lts as lts
-use Rattle.integer.proofs.internal.ceil_div.Reads as ceil-div-reads
-use Rattle.wide_sum.proofs.internal.rounding.parted.Reads as parted-reads
 
--- src/internal/rounding.rt:50:9
 parted-requires : tie.Need-parted-requires
 parted-requires c κs = search needs
 
--- src/internal/rounding.rt:51:9
 ceil-div-requires : tie.Need-ceil-div-requires
 ceil-div-requires c κs = search needs
 
--- src/internal/rounding.rt:52:5
 add-result : tie.Need-add-result
 unfolding scale
 add-result c =
     let d = c .before .before in
     ceil-safe (d .before .before .parted .ensures) (plain _ (d .ceil-div .ok)) (d .ceil-div .ensures)
 
--- src/internal/rounding.rt:46:1
 returns : tie.Need-returns
 unfolding scale
 returns c =

@@ -4,27 +4,19 @@ use Rattle.interval.specs.Interval.{scale}
 use Rattle.wide_sum.proofs.Parts.{floor-safe, floor-read}
 use Rattle.wide_sum.proofs.internal.rounding.floor.Statement.{statement}
 use Rattle.wide_sum.proofs.internal.rounding.floor.Tie as tie
-use Rattle.wide_sum.proofs.internal.rounding.floor.Reads as reads
-use Rattle.wide_sum.proofs.internal.rounding.floor.Lts as lts
-use Rattle.integer.proofs.internal.floor_div.Reads as floor-div-reads
-use Rattle.wide_sum.proofs.internal.rounding.parted.Reads as parted-reads
 
--- src/internal/rounding.rt:41:9
 parted-requires : tie.Need-parted-requires
 parted-requires c κs = search needs
 
--- src/internal/rounding.rt:42:9
 floor-div-requires : tie.Need-floor-div-requires
 floor-div-requires c κs = search needs
 
--- src/internal/rounding.rt:43:5
 add-result : tie.Need-add-result
 unfolding scale
 add-result c =
     let d = c .before .before in
     floor-safe (d .before .before .parted .ensures) (plain _ (d .floor-div .ok)) (d .floor-div .ensures)
 
--- src/internal/rounding.rt:37:1
 returns : tie.Need-returns
 unfolding scale
 returns c =

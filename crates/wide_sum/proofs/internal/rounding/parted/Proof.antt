@@ -4,37 +4,28 @@ use borrow.Author.Needs.{needs}
 use Rattle.wide_sum.proofs.Parts.{scaled-safe, with-rest-safe, with-rest-read, parted-is}
 use Rattle.wide_sum.proofs.internal.rounding.parted.Statement.{statement}
 use Rattle.wide_sum.proofs.internal.rounding.parted.Tie as tie
-use Rattle.wide_sum.proofs.internal.rounding.parted.Reads as reads
-use Rattle.wide_sum.proofs.internal.rounding.parted.Lts as lts
 
 small : (c : tie.After-struct-told) → c .before .args .w .low < 2 ^ 64
 small c = omega arith
 
--- src/internal/rounding.rt:31:17
 mul-whole : tie.Need-mul-whole
 mul-whole c = scaled-safe (c .before .pre) {m = 0} {b = 20000000000000} (omega arith) (omega arith) (omega arith)
 
--- src/internal/rounding.rt:31:33
 cast-whole : tie.Need-cast-whole
 cast-whole c = search needs
 
--- src/internal/rounding.rt:31:17
 add-whole : tie.Need-add-whole
 add-whole c = with-rest-safe (c .before .pre) {m = c .before .args .w .low / 1000000} {b = 20000000000000} (omega arith) (omega (arith, small c)) (omega arith)
 
--- src/internal/rounding.rt:32:16
 mul-part : tie.Need-mul-part
 mul-part c = scaled-safe (c .before .pre) {m = 0} {b = 2000000} (omega arith) (omega arith) (omega arith)
 
--- src/internal/rounding.rt:32:30
 cast-part : tie.Need-cast-part
 cast-part c = search needs
 
--- src/internal/rounding.rt:32:16
 add-part : tie.Need-add-part
 add-part c = with-rest-safe (c .before .pre) {m = c .before .args .w .low % 1000000} {b = 2000000} (omega arith) (omega arith) (omega arith)
 
--- src/internal/rounding.rt:25:1
 returns : tie.Need-returns
 returns c =
     parted-is (c .before .pre) (small c) _ _

@@ -5,20 +5,13 @@ use Rattle.interval.specs.Interval.{rounded}
 use Rattle.wide_sum.specs.Wide.{heldBoth}
 use Rattle.wide_sum.proofs.internal.rounding.rounded.Statement.{statement}
 use Rattle.wide_sum.proofs.internal.rounding.rounded.Tie as tie
-use Rattle.wide_sum.proofs.internal.rounding.rounded.Reads as reads
-use Rattle.wide_sum.proofs.internal.rounding.rounded.Lts as lts
-use Rattle.wide_sum.proofs.internal.rounding.ceiling.Reads as ceiling-reads
-use Rattle.wide_sum.proofs.internal.rounding.floor.Reads as floor-reads
 
--- src/internal/rounding.rt:60:9
 floor-requires : tie.Need-floor-requires
 floor-requires c κs = search needs
 
--- src/internal/rounding.rt:61:9
 ceiling-requires : tie.Need-ceiling-requires
 ceiling-requires c κs = search needs
 
--- src/internal/rounding.rt:56:1
 returns : tie.Need-returns
 unfolding rounded heldBoth
 returns c =

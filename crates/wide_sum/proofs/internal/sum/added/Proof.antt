@@ -10,33 +10,24 @@ use Rattle.wide_sum.specs.Code.{Added}
 use Rattle.wide_sum.proofs.Lowered.{raised-is}
 use Rattle.wide_sum.proofs.internal.sum.added.Statement.{statement}
 use Rattle.wide_sum.proofs.internal.sum.added.Tie as tie
-use Rattle.wide_sum.proofs.internal.sum.added.Reads as reads
-use Rattle.wide_sum.proofs.internal.sum.added.Lts as lts
-use Rattle.wide_sum.proofs.internal.sum.lowered.Reads as lowered-reads
-use Rattle.wide_sum.proofs.internal.sum.raised.Reads as raised-reads
 
 not-below : (c : tie.Else1) → pos 0 ≤ℤ c .before .args .p
 not-below c = left _ _ (rw (toZ-ofZ w64 (c .before .args .p) (c .before .fits .p)) at (c .if1 .left))
 
--- src/internal/sum.rt:73:9
 lowered-requires : tie.Need-lowered-requires
 lowered-requires c κs = search needs
 
--- src/internal/sum.rt:73:9
 returns : tie.Need-returns
 returns c =
     let s = c .before .before in
     subst (λ (z : ℤ). Added (s .args .w) z (c .lowered .result)) (toZ-ofZ w64 (s .args .p) (s .fits .p)) (c .lowered .ensures)
 
--- src/internal/sum.rt:75:15
 cast-raised : tie.Need-cast-raised
 cast-raised c = natural-cast (c .before .args .p) 1 (c .before .fits .p) (not-below c)
 
--- src/internal/sum.rt:75:5
 raised-requires : tie.Need-raised-requires
 raised-requires c κs = search needs
 
--- src/internal/sum.rt:67:1
 returns-2 : tie.Need-returns-2
 returns-2 c = raised-is (c .before .before .fits .p) (not-below (c .before)) (c .raised .ensures)
 

@@ -3,31 +3,22 @@ use borrow.Author.Needs.{needs}
 use Rattle.wide_sum.proofs.Lowered.{lift-safe, lift-cast, lifted-fits, one-less-safe, lowered-is}
 use Rattle.wide_sum.proofs.internal.sum.lowered.Statement.{statement}
 use Rattle.wide_sum.proofs.internal.sum.lowered.Tie as tie
-use Rattle.wide_sum.proofs.internal.sum.lowered.Reads as reads
-use Rattle.wide_sum.proofs.internal.sum.lowered.Lts as lts
-use Rattle.wide_sum.proofs.internal.sum.raised.Reads as raised-reads
 
--- src/internal/sum.rt:57:19
 add-lifted : tie.Need-add-lifted
 add-lifted c = lift-safe (c .fits .p) (c .pre .1 .0) (c .pre .1 .1) (omega arith) (omega arith)
 
--- src/internal/sum.rt:57:18
 cast-lifted : tie.Need-cast-lifted
 cast-lifted c = lift-cast (c .fits .p) (c .pre .1 .0) (c .pre .1 .1) (omega arith) (omega arith)
 
--- src/internal/sum.rt:58:23
 add-raised : tie.Need-add-raised
 add-raised c = lifted-fits (c .fits .p) (c .pre .1 .0) (c .pre .1 .1) (omega arith) (omega arith) _ (omega arith)
 
--- src/internal/sum.rt:58:9
 raised-requires : tie.Need-raised-requires
 raised-requires c κs = search needs
 
--- src/internal/sum.rt:61:15
 sub-t6 : tie.Need-sub-t6
 sub-t6 c = let s = c .before .before in one-less-safe (s .fits .p) (s .pre .1 .0) (s .pre .1 .1) (omega arith) (omega arith) (s .pre .0) _ (c .before .raised .ensures) (omega arith)
 
--- src/internal/sum.rt:52:1
 returns : tie.Need-returns
 returns c = let s = c .before .before in lowered-is (s .fits .p) (s .pre .1 .0) (s .pre .1 .1) (omega arith) (omega arith) (s .pre .0) _ (c .before .raised .ensures) (omega arith)
 

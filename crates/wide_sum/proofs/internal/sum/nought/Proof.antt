@@ -3,10 +3,7 @@ use lib.Signed.{leZ-yes}
 use Rattle.wide_sum.specs.Wide.{held, heldBoth}
 use Rattle.wide_sum.proofs.internal.sum.nought.Statement.{statement}
 use Rattle.wide_sum.proofs.internal.sum.nought.Tie as tie
-use Rattle.wide_sum.proofs.internal.sum.nought.Reads as reads
-use Rattle.wide_sum.proofs.internal.sum.nought.Lts as lts
 
--- src/internal/sum.rt:20:1
 returns : tie.Need-returns
 unfolding heldBoth held
 returns c =

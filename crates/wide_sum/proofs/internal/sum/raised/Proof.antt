@@ -3,24 +3,17 @@ use borrow.Author.Needs.{needs}
 use Rattle.wide_sum.proofs.Carry.{one-more-safe, raised-carry, raised-none}
 use Rattle.wide_sum.proofs.internal.sum.raised.Statement.{statement}
 use Rattle.wide_sum.proofs.internal.sum.raised.Tie as tie
-use Rattle.wide_sum.proofs.internal.sum.raised.Reads as reads
-use Rattle.wide_sum.proofs.internal.sum.raised.Lts as lts
-use Rattle.std.proofs.num.wrapping_add_u64.Reads as wrapping-add-u64-reads
 
--- src/internal/sum.rt:40:9
 wrapping-add-u64-requires : tie.Need-wrapping-add-u64-requires
 wrapping-add-u64-requires c κs = search needs
 
--- src/internal/sum.rt:44:19
 add-t6 : tie.Need-add-t6
 add-t6 c = one-more-safe (c .before .before .before .pre)
 
--- src/internal/sum.rt:43:9
 returns : tie.Need-returns
 returns c =
     raised-carry (c .before .before .before .pre) (omega arith) (omega arith) (c .before .before .wrapping-add-u64 .ensures) (omega (arith, c .before .before .wrapping-add-u64 .ensures, c .if1 .taken))
 
--- src/internal/sum.rt:36:1
 returns-2 : tie.Need-returns-2
 returns-2 c =
     raised-none (c .before .before .before .pre) (omega arith) (omega arith) (c .before .before .wrapping-add-u64 .ensures) (omega (arith, c .before .before .wrapping-add-u64 .ensures, c .if1 .left))

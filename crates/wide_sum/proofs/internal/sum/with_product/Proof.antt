@@ -13,12 +13,6 @@ use Rattle.wide_sum.specs.Code.{Added}
 use Rattle.wide_sum.proofs.Product.{both-added, least-exchanged, greatest-exchanged, natural-product-cast, natural-product, answered}
 use Rattle.wide_sum.proofs.internal.sum.with_product.Statement.{statement}
 use Rattle.wide_sum.proofs.internal.sum.with_product.Tie as tie
-use Rattle.wide_sum.proofs.internal.sum.with_product.Reads as reads
-use Rattle.wide_sum.proofs.internal.sum.with_product.Lts as lts
-use Rattle.interval.proofs.internal.product.greatest_product.Reads as greatest-product-reads
-use Rattle.interval.proofs.internal.product.least_product.Reads as least-product-reads
-use Rattle.wide_sum.proofs.internal.sum.added.Reads as added-reads
-use Rattle.wide_sum.proofs.internal.sum.raised.Reads as raised-reads
 
 -- both operands are not below 0
 abbrev start : tie.Then2 → tie.Start
@@ -39,23 +33,18 @@ x-above c = above-taken (x-sound (start c) .lo-in) (c .before .if1 .taken)
 y-above : (c : tie.Then2) → pos 0 ≤ℤ start c .args .y .lo
 y-above c = above-taken (y-sound (start c) .lo-in) (c .if2 .taken)
 
--- src/internal/sum.rt:91:37
 mul-raised : tie.Need-mul-raised
 mul-raised c = let s = start c in product-safe (x-sound s .lo-in) (y-sound s .lo-in)
 
--- src/internal/sum.rt:91:36
 cast-raised : tie.Need-cast-raised
 cast-raised c = let s = start c in natural-product-cast (x-sound s .lo-in) (y-sound s .lo-in) (x-above c) (y-above c)
 
--- src/internal/sum.rt:91:21
 raised-requires : tie.Need-raised-requires
 raised-requires c κs = search needs
 
--- src/internal/sum.rt:92:37
 mul-raised-2 : tie.Need-mul-raised-2
 mul-raised-2 c = let s = start (c .before) in product-safe (x-sound s .hi-in) (y-sound s .hi-in)
 
--- src/internal/sum.rt:92:36
 cast-raised-2 : tie.Need-cast-raised-2
 cast-raised-2 c =
     let s = start (c .before) in
@@ -63,11 +52,9 @@ cast-raised-2 c =
     let y = y-sound s in
     natural-product-cast (x .hi-in) (y .hi-in) (trans (x-above (c .before)) (x .order)) (trans (y-above (c .before)) (y .order))
 
--- src/internal/sum.rt:92:21
 raised-requires-2 : tie.Need-raised-requires-2
 raised-requires-2 c κs = search needs
 
--- src/internal/sum.rt:90:13
 returns : tie.Need-returns
 returns c =
     let b = c .before .before in
@@ -82,11 +69,9 @@ returns c =
     (subst (λ z. Added (s .args .acc .hi) z (c .raised2 .result)) (sym (above-greatest-above x y (x-above b) ys))
     (natural-product (x .hi-in) (y .hi-in) xs ys (c .raised2 .ensures)))
 
--- src/internal/sum.rt:96:9
 least-product-requires : tie.Need-least-product-requires
 least-product-requires c κs = search needs
 
--- src/internal/sum.rt:97:9
 greatest-product-requires : tie.Need-greatest-product-requires
 greatest-product-requires c κs = search needs
 
@@ -99,15 +84,12 @@ least-low c =
 greatest-low : (c : tie.After-greatest-product) → negsuc 3999999999999999999 ≤ℤ toZ w64 (ofZ w64 (c .greatest-product .result))
 greatest-low c = let s = other c in rw (plain _ (c .greatest-product .ok), c .greatest-product .ensures) (greatest-bounded (y-sound s) (x-sound s) .0)
 
--- src/internal/sum.rt:99:13
 added-requires : tie.Need-added-requires
 added-requires c κs = (other c .pre .0 .lo-near, search (least-low (c .before), greatest-low c))
 
--- src/internal/sum.rt:100:13
 added-requires-2 : tie.Need-added-requires-2
 added-requires-2 c κs = (other (c .before) .pre .0 .hi-near, search (least-low (c .before .before), greatest-low (c .before)))
 
--- src/internal/sum.rt:80:1
 returns-2 : tie.Need-returns-2
 returns-2 c =
     let g = c .before .before in
