@@ -149,6 +149,8 @@ KifwalebStep kifwaleb_quotient(int64_t a_lo, int64_t a_hi, int64_t b_lo, int64_t
  * step k, the lowest row from k on whose entry in column k does not contain 0 is
  * swapped with row k; components keep their numbers. Takes n, the matrix a, the
  * right side f, and a box for the bounds; what the box holds before does not matter.
+ * Going back, f less the row's products is summed exactly and rounded outward once;
+ * every other product and every quotient is rounded outward by itself.
  * DONE, and the bounds are written to the box; else the first of
  *   SIZE;
  *   LENGTH, the place says which slice;
@@ -204,8 +206,10 @@ KifwalebOutcome kifwaleb_start_box(size_t n,
 
 /*
  * Tightens bounds on the solutions of x = B*x + b. Takes n, B and b as above, a
- * start box, and the number of sweeps allowed, 1 to 10,000. Every solution in the
- * start box is in the box written, and no bound gets wider.
+ * start box, and the number of sweeps allowed, 1 to 10,000. For each vat, b and all
+ * products of its row are summed exactly, rounded outward once to units, and
+ * intersected with its bounds. Every solution in the start box is in the box written,
+ * and no bound gets wider.
  * To tighten a box that kifwaleb_eliminate wrote from A and f, lend B = I - A and
  * b = f: for an entry [lo, hi] of A, [1000000 - hi, 1000000 - lo] on the diagonal
  * and [-hi, -lo] elsewhere. A itself in B's place tightens something else.

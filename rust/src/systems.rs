@@ -92,9 +92,10 @@ pub fn start_box(n: usize, b_matrix: &[i64], b: &[i64], bounds: &mut [i64]) -> O
 }
 
 /// Tightens bounds on the solutions of x = B·x + b, in place, by at most
-/// `allowed` sweeps, 1 to 10,000. Every solution in the start box is in the box
-/// written, and no bound gets wider. `Done` means settled; `Spent` writes the
-/// bounds too.
+/// `allowed` sweeps, 1 to 10,000. For each vat, b and all products of its row are
+/// summed exactly, rounded outward once, and intersected with its bounds. Every
+/// solution in the start box is in the box written, and no bound gets wider. `Done`
+/// means settled; `Spent` writes the bounds too.
 ///
 /// To tighten a box that [`eliminate`] wrote from A and f, lend B = I − A and
 /// b = f: for an entry \[lo, hi\] of A, \[1,000,000 − hi, 1,000,000 − lo\] on the

@@ -42,7 +42,7 @@ endedA p sum s X = ended written X (runA p sum s (length X))
 abbrev pub endedB : Pivoting → RowSum → System → (box : List ℤ) → Returned (List ℤ)
 endedB p sum s X = ended written X (runB p sum s (length X))
 
--- the two calls
+-- the two calls as they are: the lowest row that serves, and each row of back-substitution rounded once
 abbrev pub overA : System → (box : List ℤ) → Returned (List ℤ)
 overA = endedA lowestRow once
 

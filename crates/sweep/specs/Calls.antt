@@ -50,7 +50,7 @@ unfoldable pub anyEmptyBy : RowSum → System → List Call → List ℤ → Boo
 anyEmptyBy sum s [] X = false
 anyEmptyBy sum s (c ∷ cs) X = eqb (callBy sum s c X .number) 7 || anyEmptyBy sum s cs (callBy sum s c X .left)
 
--- the calls, as they are
+-- the calls as they are: each row is rounded once
 abbrev pub run : System → Call → List ℤ → Run Log
 run = runBy once
 
