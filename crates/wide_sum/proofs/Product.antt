@@ -1,7 +1,7 @@
 -- Adding the product of two intervals to both ends.
-use mathlib.Core.Path.{_≡_, subst, _∙_}
+use mathlib.Core.Path.{_≡_, sym, subst, _∙_}
 use native.Mathlib.Omega.{arith}
-use lib.IntN.{ℤ, pos, natAbs, _*ℤ_, *ℤ-comm}
+use lib.IntN.{ℤ, pos, negsuc, natAbs, _*ℤ_, *ℤ-comm}
 use lib.Dec.{T}
 use lib.Signed.{_≤ℤ_, nonNeg}
 use mir.Syntax.{w64}
@@ -12,7 +12,9 @@ use Rattle.integer.proofs.Machine.{natural-cast}
 use Rattle.interval.specs.declared.Interval.{Interval}
 use Rattle.interval.specs.Interval.{least, greatest, leastProduct, greatestProduct, exactSum, exactProduct}
 use Rattle.interval.proofs.Corners.{least-ind, greatest-ind, least-first, least-second, least-third, least-fourth, greatest-first, greatest-second, greatest-third, greatest-fourth}
-use Rattle.interval.proofs.Range.{Within, product-fits, read}
+use Rattle.interval.proofs.Range.{Within, Sound, product-fits, product-read, read}
+use Rattle.interval.proofs.Scaled.{product-bounded}
+use Rattle.interval.proofs.Signs.{above-least-above, above-least-below, above-greatest-above, above-greatest-below}
 use Rattle.wide_sum.specs.declared.Wide.{Wide}
 use Rattle.wide_sum.specs.declared.WideInterval.{WideInterval}
 use Rattle.wide_sum.specs.Wide.{heldBoth}
@@ -48,6 +50,20 @@ pub greatest-exchanged : (x y : Interval) → greatestProduct y x ≡ greatestPr
 greatest-exchanged x y =
     rw (*ℤ-comm (y .lo) (x .lo), *ℤ-comm (y .lo) (x .hi), *ℤ-comm (y .hi) (x .lo), *ℤ-comm (y .hi) (x .hi)) (greatest-swap _ _ _ _)
 
+-- ---- the ends of a product whose right operand is not below 0
+module _ {x y : Interval} (v : Sound x) (w : Sound y) (h : pos 0 ≤ℤ y .lo) where
+  pub least-above : pos 0 ≤ℤ x .lo → leastProduct x y ≡ x .lo *ℤ y .lo
+  least-above k = above-least-above v w k h
+
+  pub least-below : x .lo ≤ℤ pos 0 → leastProduct x y ≡ x .lo *ℤ y .hi
+  least-below k = sym (least-exchanged x y) ∙ above-least-below w v h k ∙ *ℤ-comm (y .hi) (x .lo)
+
+  pub greatest-above : pos 0 ≤ℤ x .hi → greatestProduct x y ≡ x .hi *ℤ y .hi
+  greatest-above k = sym (greatest-exchanged x y) ∙ above-greatest-above w v h k ∙ *ℤ-comm (y .hi) (x .hi)
+
+  pub greatest-below : x .hi ≤ℤ pos 0 → greatestProduct x y ≡ x .hi *ℤ y .lo
+  greatest-below k = sym (greatest-exchanged x y) ∙ above-greatest-below w v h k ∙ *ℤ-comm (y .lo) (x .hi)
+
 -- ---- as the code has them
 -- the product of two ends that are not below 0
 module _ {a b : ℤ} (h : Within a) (k : Within b) (p : pos 0 ≤ℤ a) (q : pos 0 ≤ℤ b) where
@@ -67,3 +83,11 @@ module _ {a b : ℤ} (h : Within a) (k : Within b) (p : pos 0 ≤ℤ a) (q : pos
 -- a product that a function answered
 pub answered : {w v : Wide} {p q : ℤ} → toZ w64 (ofZ w64 p) ≡ p → p ≡ q → Added w (toZ w64 (ofZ w64 p)) v → Added w q v
 answered {w} {v} {p} e f r = subst (λ z. Added w z v) (e ∙ f) r
+
+-- the product of any two ends
+module _ {a b : ℤ} (h : Within a) (k : Within b) where
+  pub product-low : negsuc 3999999999999999999 ≤ℤ toZ w64 (ofZ w64 (toZ w64 (ofZ w64 a) *ℤ toZ w64 (ofZ w64 b)))
+  product-low = rw (product-read h k) (product-bounded h k .0)
+
+  pub any-product : {w v : Wide} → Added w (toZ w64 (ofZ w64 (toZ w64 (ofZ w64 a) *ℤ toZ w64 (ofZ w64 b)))) v → Added w (a *ℤ b) v
+  any-product {w} {v} r = subst (λ z. Added w z v) (product-read h k) r

@@ -69,10 +69,10 @@ fn added(w: Wide, p: i64) -> Wide
     raised(w, p as u64)
 }
 
-// acc and the product of two intervals, unrounded. What is not negative, as shares and weights are, needs no sign cases; else the right
-// operand's signs decide, which are a vat's and so the same in every row.
-pub fn with_product(acc: WideInterval, x: Interval, y: Interval) -> WideInterval
+// acc and the product of two intervals, unrounded, of which the right one is not below 0, as weights are; nor is the left one mostly.
+fn with_product_above(acc: WideInterval, x: Interval, y: Interval) -> WideInterval
     requires { ⌜ NearBoth 1_000 acc × (acceptable x ≡ true) × (acceptable y ≡ true) ⌝ }
+    requires { ⌜ pos 0 ≤ℤ y .lo ⌝ }
     ensures { λ r. ⌜ AddedBoth acc (exactProduct x y) r ⌝ }
 {
     let a = x.lo;
@@ -80,12 +80,30 @@ pub fn with_product(acc: WideInterval, x: Interval, y: Interval) -> WideInterval
     let c = y.lo;
     let d = y.hi;
     if 0 <= a {
-        if 0 <= c {
-            return WideInterval {
-                lo: raised(acc.lo, (a * c) as u64),
-                hi: raised(acc.hi, (b * d) as u64),
-            };
-        }
+        return WideInterval {
+            lo: raised(acc.lo, (a * c) as u64),
+            hi: raised(acc.hi, (b * d) as u64),
+        };
+    }
+    if b < 0 {
+        return WideInterval {
+            lo: added(acc.lo, a * d),
+            hi: added(acc.hi, b * c),
+        };
+    }
+    WideInterval {
+        lo: added(acc.lo, a * d),
+        hi: raised(acc.hi, (b * d) as u64),
+    }
+}
+
+// acc and the product of any two. The right one's signs are looked at first: it is a vat's bounds, the same in every row.
+pub fn with_product(acc: WideInterval, x: Interval, y: Interval) -> WideInterval
+    requires { ⌜ NearBoth 1_000 acc × (acceptable x ≡ true) × (acceptable y ≡ true) ⌝ }
+    ensures { λ r. ⌜ AddedBoth acc (exactProduct x y) r ⌝ }
+{
+    if 0 <= y.lo {
+        return with_product_above(acc, x, y);
     }
     let p = least_product(y, x);
     let q = greatest_product(y, x);
