@@ -2,7 +2,7 @@
 
 pub const USAGE: &str =
     "usage: differential [pairs=N] [systems=N] [starts=N] [sweeps=N] [boxes=N] [texts=N] \
-     [searches=N] [programs=N] [seed=N]";
+     [searches=N] [inside=N] [programs=N] [seed=N]";
 
 #[derive(Clone, Copy, Debug, PartialEq, Eq)]
 pub struct Plan {
@@ -20,6 +20,8 @@ pub struct Plan {
     pub texts: u64,
     /// Searches for a byte: at every place alone, then random ones.
     pub searches: u64,
+    /// Calls held against the calculation of before document 02's A4.
+    pub inside: u64,
     /// Texts for the program, edge texts and random ones.
     pub programs: usize,
     pub seed: u64,
@@ -34,6 +36,7 @@ impl Plan {
         boxes: 1_000_000,
         texts: 300_000,
         searches: 2_000_000,
+        inside: 1_000_000,
         programs: 2_000,
         seed: 1,
     };
@@ -50,6 +53,7 @@ impl Plan {
                 ("boxes", number) => plan.boxes = number.parse().ok()?,
                 ("texts", number) => plan.texts = number.parse().ok()?,
                 ("searches", number) => plan.searches = number.parse().ok()?,
+                ("inside", number) => plan.inside = number.parse().ok()?,
                 ("programs", number) => plan.programs = number.parse().ok()?,
                 ("seed", number) => plan.seed = number.parse().ok()?,
                 _ => return None,
@@ -70,11 +74,12 @@ mod tests {
     #[test]
     fn arguments_come_in_any_sequence() {
         let plan = read(
-            "pairs=2 systems=3 sweeps=5 texts=6 programs=7 seed=4 starts=8 boxes=9 searches=10",
+            "pairs=2 systems=3 sweeps=5 texts=6 programs=7 seed=4 starts=8 boxes=9 searches=10 \
+             inside=11",
         );
         assert_eq!(
             read(
-                "searches=10 boxes=9 starts=8 seed=4 programs=7 texts=6 sweeps=5 systems=3 pairs=2"
+                "inside=11 searches=10 boxes=9 starts=8 seed=4 programs=7 texts=6 sweeps=5 systems=3 pairs=2"
             ),
             plan
         );
@@ -82,6 +87,7 @@ mod tests {
         assert_eq!([plan.pairs, plan.systems, plan.sweeps], [2, 3, 5]);
         assert_eq!([plan.texts, plan.programs as u64, plan.seed], [6, 7, 4]);
         assert_eq!([plan.starts, plan.boxes, plan.searches], [8, 9, 10]);
+        assert_eq!(plan.inside, 11);
         assert_eq!(read(""), Some(Plan::DEFAULT));
     }
 

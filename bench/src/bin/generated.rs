@@ -10,7 +10,9 @@ use kifwaleb_bench::generator::{
     boxes_up_to, edge_cases, edge_lists, edge_pairs, edge_texts, random_cases_up_to,
     random_lists_up_to, random_pairs, random_texts_up_to, searches, starts_up_to, Random,
 };
-use kifwaleb_bench::reference::{read_text, Call, Interval, Operation, MOST_BYTES, MOST_EQUATIONS};
+use kifwaleb_bench::reference::{
+    read_text, Call, Interval, Operation, LIMIT, MOST_BYTES, MOST_EQUATIONS,
+};
 use kifwaleb_bench::side::{Reference, Side};
 use kifwaleb_bench::sweep_list::SweepList;
 use kifwaleb_bench::text_case::TextCase;
@@ -145,6 +147,12 @@ fn has_most_vats(lent: &Case) -> bool {
     lent.n == MOST_EQUATIONS && lent.matrix.len() == 2 * lent.n * lent.n
 }
 
+/// Some words of 64 bits away from 0.
+fn has_far_sums(lent: &Case) -> bool {
+    let ends = lent.matrix.iter().filter(|end| end.abs() == LIMIT);
+    ends.count() > 30
+}
+
 fn eliminations(call: Call) -> Vec<Entry> {
     let edge = edge_cases(call).filter(has_few_vats).step_by(5);
     let random = random_cases_up_to(FEW_VATS, call, SEED).take(RANDOM);
@@ -184,8 +192,9 @@ fn sweeps() -> Vec<Entry> {
         system.into_iter().chain(calls).collect()
     };
     let mut all = chosen(lists.map(entries).collect(), 2, 80_000);
-    let large = edge_lists().filter(|list| has_most_vats(&list.lent));
-    all.extend(large.take(1).flat_map(entries));
+    let large = || edge_lists().filter(|list| has_most_vats(&list.lent));
+    let far = large().filter(|list| has_far_sums(&list.lent)).step_by(20);
+    all.extend(large().take(1).chain(far.take(8)).flat_map(entries));
     all
 }
 

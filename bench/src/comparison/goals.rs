@@ -153,6 +153,31 @@ pub fn of_sweep() -> Vec<Goal> {
     goals
 }
 
+/// Rounding a row once changes nothing in a row of one product.
+pub fn of_inside() -> Vec<Goal> {
+    let mut goals = vec![
+        Goal::at("narrower by elimination for n", 3..=MOST_EQUATIONS),
+        Goal::at("narrower by sweeps for n", 2..=MOST_EQUATIONS),
+        Goal::at(
+            "narrower by sweeps after elimination for n",
+            2..=MOST_EQUATIONS,
+        ),
+    ];
+    let single = [
+        "6 gone",
+        "6 moved to a lower row",
+        "7 new",
+        "7 as before",
+        "settled sooner",
+        "settled later",
+        "settled, spent before",
+        "spent, settled before",
+        "as before, but for the box",
+    ];
+    goals.extend(single.map(Goal::once));
+    goals
+}
+
 /// The box of one vat is settled at once, a surplus line is not missing, and the
 /// last faulty line is one too many after 32 vats. No text is known that leads to
 /// a 7: the box that elimination writes would have to hold no solution.

@@ -2,6 +2,7 @@
 
 mod choices;
 pub mod goals;
+mod inside;
 mod lent;
 mod searches;
 mod starts;
@@ -14,6 +15,7 @@ mod tests;
 mod texts;
 
 pub use choices::Boxes;
+pub use inside::Inside;
 pub use searches::{Memory, Search, LONGEST};
 pub use starts::StartBox;
 pub use steps::Pair;

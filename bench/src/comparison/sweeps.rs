@@ -4,7 +4,7 @@ use super::goals::stopped;
 use super::lent::difference;
 use super::{Tally, Trial};
 use crate::case::{Answer, Case};
-use crate::reference::{sweep_end, SweepEnd, EMPTY, MOST_SWEEPS};
+use crate::reference::{sweep_end, Rounding, SweepEnd, EMPTY, MOST_SWEEPS};
 use crate::side::Side;
 use crate::sweep_list::SweepList;
 
@@ -20,7 +20,7 @@ impl Trial for SweepList {
         let mut lent = self.lent.clone();
         let mut before = Before::default();
         for (index, allowed) in self.allowed.iter().copied().enumerate() {
-            let end = end_of(&lent, allowed);
+            let end = end_of(Rounding::Once, &lent, allowed);
             let expected = lent.answer(|_, slices| end.finish(slices.bounds));
             let given = lent.answer(|n, slices| side.sweep(n, slices, allowed));
             let head = format!("sweep, {allowed} allowed, call {} of its list", index + 1);
@@ -43,9 +43,9 @@ impl Trial for SweepList {
     }
 }
 
-fn end_of(lent: &Case, allowed: usize) -> SweepEnd {
-    let (matrix, right_side) = (&lent.matrix, &lent.right_side);
-    sweep_end(lent.n, matrix, right_side, &lent.bounds, allowed)
+pub(super) fn end_of(rounding: Rounding, lent: &Case, allowed: usize) -> SweepEnd {
+    let slices = [&lent.matrix[..], &lent.right_side, &lent.bounds];
+    sweep_end(rounding, lent.n, slices, allowed)
 }
 
 impl SweepList {

@@ -4,7 +4,7 @@ use super::goals::{after_swaps, stopped};
 use super::lent::difference;
 use super::{Tally, Trial};
 use crate::case::Case;
-use crate::reference::{trace, Call};
+use crate::reference::{trace, Call, Rounding, Trace};
 use crate::side::Side;
 
 /// An elimination with what it is lent.
@@ -14,11 +14,16 @@ pub struct Elimination {
     pub lent: Case,
 }
 
+pub(super) fn trace_of(rounding: Rounding, call: Call, lent: &Case) -> Trace {
+    let slices = [&lent.matrix[..], &lent.right_side];
+    trace(rounding, call, lent.n, slices, lent.bounds.len())
+}
+
 impl Trial for Elimination {
     fn compare(&self, side: &impl Side, tally: &mut Tally) -> Result<(), String> {
         let Elimination { call, lent } = self;
-        let (n, box_length) = (lent.n, lent.bounds.len());
-        let trace = trace(*call, n, &lent.matrix, &lent.right_side, box_length);
+        let n = lent.n;
+        let trace = trace_of(Rounding::Once, *call, lent);
         let expected = lent.answer(|_, slices| trace.finish(slices.bounds));
         let given = lent.answer(|n, slices| side.eliminate(*call, n, slices));
         if expected != given {

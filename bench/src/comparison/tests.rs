@@ -3,7 +3,7 @@
 
 use super::*;
 use crate::case::{Case, Slices};
-use crate::reference::{Call, Interval, Operation, Outcome};
+use crate::reference::{Call, Interval, Operation, Outcome, LIMIT};
 use crate::samples::{identity, three_equations, INPUT};
 use crate::side::{Flat, Reference};
 use crate::sweep_list::{Solution, SweepList};
@@ -16,7 +16,8 @@ enum Change {
     Number,
     Place,
     Count,
-    /// In the first, second or third slice, its first or last number or byte.
+    /// In the first, second or third slice: its first number one less, its last one
+    /// more, so that a box gets wider; or another byte.
     Slice(usize, bool),
 }
 
@@ -74,9 +75,13 @@ impl Changed {
             return outcome;
         }
         let slices = [lent.matrix, lent.right_side, lent.bounds];
+        let by = match self.change {
+            Change::Slice(_, false) => -1,
+            _ => 1,
+        };
         self.chosen(slices)
             .into_iter()
-            .for_each(|number| *number += 1);
+            .for_each(|number| *number += by);
         self.outcome(outcome)
     }
 }
@@ -137,14 +142,10 @@ impl Side for Changed {
 
 /// Each change of the answer to each call is noticed; the reference itself is
 /// not.
-fn assert_compared<T: Trial + Clone>(goals: &[Goal], trials: &[T], slices: usize) {
+fn assert_compared<T: Trial + Clone>(goals: &[Goal], trials: &[T], changes: &[Change]) {
     let calls = compare(goals.to_vec(), trials.iter().cloned(), 99, &Reference);
     let calls = calls.unwrap().calls() as usize;
-    let possible = |change: &&Change| match change {
-        Change::Slice(slice, _) => *slice < slices,
-        _ => true,
-    };
-    for change in CHANGES.iter().filter(possible) {
+    for change in changes {
         for call in 0..calls {
             let side = Changed {
                 change: *change,
@@ -188,26 +189,53 @@ fn every_number_of_an_answer_is_compared() {
         a: one,
         b: one,
     };
-    assert_compared(&goals::of_step(Operation::Sum), &[pair], 1);
+    assert_compared(&goals::of_step(Operation::Sum), &[pair], &CHANGES[..5]);
     let call = Call::Eliminate;
     let refused = three_equations().nth(1).unwrap();
     let both = [identity(2), refused].map(|system| Elimination {
         call,
         lent: Case::new(&system),
     });
-    assert_compared(&goals::of_elimination(call), &both, 3);
-    assert_compared(&goals::of_sweep(), &[list(&[2, 0, 100])], 3);
+    assert_compared(&goals::of_elimination(call), &both, &CHANGES);
+    assert_compared(&goals::of_sweep(), &[list(&[2, 0, 100])], &CHANGES);
     let starts = [list(&[]), SweepList::new(Case::new(&identity(2)), &[])].map(StartBox);
-    assert_compared(&goals::of_start_box(), &starts, 3);
+    assert_compared(&goals::of_start_box(), &starts, &CHANGES);
     let boxes = [[0, 5], [7, 7], [1, 0]].map(|ends| Boxes {
         n: 1,
         first: ends.to_vec(),
         second: vec![2, -2],
     });
-    assert_compared(&goals::of_narrower(), &boxes, 0);
+    assert_compared(&goals::of_narrower(), &boxes, &CHANGES[..3]);
     let texts = [INPUT, b"a\n1:0\n0:0\n"].map(|text| TextCase::new(text.to_vec()));
-    assert_compared(&goals::of_report(), &texts, 2);
-    assert_compared(&goals::of_search(), &[0, 3].map(search), 1);
+    assert_compared(&goals::of_report(), &texts, &CHANGES[..7]);
+    assert_compared(&goals::of_search(), &[0, 3].map(search), &CHANGES[..5]);
+}
+
+/// Calls that end as before: spent, refused, settled, and an elimination done, without
+/// a pivot, with a factor and with a quotient out of the range. After a 7 nothing but
+/// its number is compared.
+#[test]
+fn a_box_wider_than_the_former_one_is_noticed() {
+    let goals = goals::of_inside();
+    let lent = |list| Inside {
+        elimination: None,
+        list,
+    };
+    let mut empty = list(&[1]);
+    empty.lent.bounds = vec![5, 5];
+    assert_compared(&goals, &[lent(empty)], &CHANGES[..1]);
+    let eliminated = [[1_000_000, 0], [0, 0], [1, LIMIT], [1, 0]].map(|[pivot, below]| {
+        let mut system = identity(2);
+        system.set_a(1, 1, Interval::point(pivot));
+        system.set_a(2, 1, Interval::point(below));
+        Inside {
+            elimination: Some(Call::Eliminate),
+            list: SweepList::new(Case::new(&system), &[2]),
+        }
+    });
+    let trials = [&[lent(list(&[3, 0, 100]))], &eliminated[..]].concat();
+    let changes = [&CHANGES[..2], &CHANGES[7..]].concat();
+    assert_compared(&goals, &trials, &changes);
 }
 
 #[test]
@@ -263,7 +291,7 @@ fn a_difference_names_what_differs() {
     for part in [
         "number 0 of the box",
         "reference: 1000000",
-        "archive:   1000001",
+        "archive:   999999",
     ] {
         assert!(found.contains(part), "{found}");
     }

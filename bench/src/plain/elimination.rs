@@ -1,6 +1,6 @@
 //! Elimination from B and b.
 
-use super::interval::{Interval, ONE};
+use super::interval::{row_sum, Interval, ONE};
 use super::lent::{test_ends, test_lengths, write};
 use crate::reference::{Outcome, RESULT_OUT_OF_RANGE, ZERO_DIVISOR};
 
@@ -79,7 +79,7 @@ fn substitute_back(n: usize, rows: &[Interval]) -> Result<Vec<Interval>, Outcome
     let mut x = vec![Interval::ZERO; n];
     for (i, row) in rows.chunks_exact(n + 1).enumerate().rev() {
         let known = row[i + 1..n].iter().zip(&x[i + 1..]);
-        let sum = known.fold(Interval::ZERO, |sum, (a, x)| sum + a.product(*x));
+        let sum = row_sum(known.map(|(a, x)| (*a, *x)));
         let numerator = (row[n] - sum).in_range().ok_or(out_of_range(i))?;
         let quotient = numerator.quotient(row[i]).in_range();
         x[i] = quotient.ok_or(out_of_range(i))?;

@@ -1,5 +1,5 @@
-//! Intervals in units. No product of two ends, and no sum of 33 such products
-//! in units, leaves 64 bits.
+//! Intervals in units. No product of two ends leaves 64 bits, but a row's sum of
+//! them does before it is rounded.
 
 use crate::reference::LIMIT;
 use std::ops::{Add, Sub};
@@ -48,18 +48,25 @@ impl Interval {
         self.lo <= 0 && 0 <= self.hi
     }
 
-    /// Rounded outwards to units.
+    /// The least and the greatest product, in units of units.
     #[inline]
-    pub fn product(self, other: Interval) -> Interval {
+    fn products(self, other: Interval) -> (i64, i64) {
         let products = [
             self.lo * other.lo,
             self.lo * other.hi,
             self.hi * other.lo,
             self.hi * other.hi,
         ];
+        (least(products), greatest(products))
+    }
+
+    /// Rounded outwards to units.
+    #[inline]
+    pub fn product(self, other: Interval) -> Interval {
+        let (least, greatest) = self.products(other);
         Interval {
-            lo: floor(least(products), ONE),
-            hi: ceiling(greatest(products), ONE),
+            lo: floor(least, ONE),
+            hi: ceiling(greatest, ONE),
         }
     }
 
@@ -83,6 +90,22 @@ impl Interval {
             lo: least(floors),
             hi: greatest(ceilings),
         }
+    }
+}
+
+/// The sum of a row's products, rounded outwards to units once.
+#[inline]
+pub fn row_sum(row: impl Iterator<Item = (Interval, Interval)>) -> Interval {
+    let (mut lo, mut hi) = (0_i128, 0_i128);
+    for (entry, weight) in row {
+        let (least, greatest) = entry.products(weight);
+        lo += i128::from(least);
+        hi += i128::from(greatest);
+    }
+    let one = i128::from(ONE);
+    Interval {
+        lo: lo.div_euclid(one) as i64,
+        hi: -(-hi).div_euclid(one) as i64,
     }
 }
 

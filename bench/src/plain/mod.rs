@@ -1,5 +1,5 @@
-//! The calls in everyday Rust, for comparing speed: 64-bit
-//! numbers, four products, floor and ceiling, safe slices. Unlike the
+//! The calls in everyday Rust, for comparing speed: 64-bit numbers, 128 bits for
+//! the sum of a row, four products, floor and ceiling, safe slices. Unlike the
 //! reference it keeps no account of what it did, only of the outcome.
 
 mod elimination;

@@ -1,6 +1,6 @@
 //! The sweep call.
 
-use super::interval::Interval;
+use super::interval::{row_sum, Interval};
 use super::lent::{test_ends, test_lengths, write};
 use crate::reference::{Outcome, DONE, EMPTY, FAULTY_ALLOWANCE, MOST_SWEEPS, SPENT};
 
@@ -40,10 +40,8 @@ fn sweep_once(b_matrix: &[i64], b: &[i64], x: &mut [Interval]) -> Result<bool, u
     let mut changed = false;
     let rows = b_matrix.chunks_exact(2 * x.len()).zip(b.chunks_exact(2));
     for (i, (shares, delivery)) in rows.enumerate() {
-        let mut sum = Interval::of(delivery);
-        for (share, weight) in shares.chunks_exact(2).zip(x.iter()) {
-            sum = sum + Interval::of(share).product(*weight);
-        }
+        let shares = shares.chunks_exact(2).map(Interval::of);
+        let sum = Interval::of(delivery) + row_sum(shares.zip(x.iter().copied()));
         let tightened = Interval {
             lo: sum.lo.max(x[i].lo),
             hi: sum.hi.min(x[i].hi),

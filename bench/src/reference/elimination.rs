@@ -1,8 +1,9 @@
 //! The two elimination calls of document 01, with the row swaps of document 02's
-//! A1, written from their words alone.
+//! A1 and the numerators of its A4, written from their words alone.
 
 use super::interval::{rounded_product, rounded_quotient, Interval, WideInterval, SCALE};
 use super::outcome::{Outcome, Phase, Stop};
+use super::rows::Rounding;
 use super::system::{laid_flat, System};
 
 /// The two calls.
@@ -38,19 +39,20 @@ pub struct Trace {
 
 /// From A·x = f.
 pub fn eliminate(n: usize, a: &[i64], f: &[i64], bounds: &mut [i64]) -> Outcome {
-    trace(Call::Eliminate, n, a, f, bounds.len()).finish(bounds)
+    trace(Rounding::Once, Call::Eliminate, n, [a, f], bounds.len()).finish(bounds)
 }
 
 /// From x = B·x + b.
 pub fn eliminate_balance(n: usize, b_matrix: &[i64], b: &[i64], bounds: &mut [i64]) -> Outcome {
-    trace(Call::EliminateBalance, n, b_matrix, b, bounds.len()).finish(bounds)
+    let call = Call::EliminateBalance;
+    trace(Rounding::Once, call, n, [b_matrix, b], bounds.len()).finish(bounds)
 }
 
-/// One call with all that can be known of it. Of the box only the length
-/// counts.
-pub fn trace(call: Call, n: usize, matrix: &[i64], right_side: &[i64], box_length: usize) -> Trace {
-    match System::read(n, matrix, right_side, box_length) {
-        Ok(system) => calculate(call, system),
+/// One call over matrix and right side with all that can be known of it. Of the box
+/// only the length counts.
+pub fn trace(rounding: Rounding, call: Call, n: usize, lent: [&[i64]; 2], length: usize) -> Trace {
+    match System::read(n, lent[0], lent[1], length) {
+        Ok(system) => calculated(rounding, call, system),
         Err(stop) => Trace {
             copy: None,
             swaps: Vec::new(),
@@ -60,9 +62,14 @@ pub fn trace(call: Call, n: usize, matrix: &[i64], right_side: &[i64], box_lengt
 }
 
 /// The calculation of one call on intervals that have passed every test.
-pub fn calculate(call: Call, mut copy: System) -> Trace {
+pub fn calculate(call: Call, copy: System) -> Trace {
+    calculated(Rounding::Once, call, copy)
+}
+
+fn calculated(rounding: Rounding, call: Call, mut copy: System) -> Trace {
     let mut swaps = Vec::new();
-    let end = run(call, &mut copy, &mut swaps);
+    let end = forward(call, &mut copy, &mut swaps);
+    let end = end.and_then(|()| substitute_back(rounding, &copy));
     Trace {
         copy: Some(copy),
         swaps,
@@ -87,12 +94,11 @@ impl Trace {
     }
 }
 
-fn run(call: Call, copy: &mut System, swaps: &mut Vec<usize>) -> Result<Vec<Interval>, Stop> {
+fn forward(call: Call, copy: &mut System, swaps: &mut Vec<usize>) -> Result<(), Stop> {
     if call == Call::EliminateBalance {
         form_from_balance(copy)?;
     }
-    reduce(copy, swaps)?;
-    substitute_back(copy)
+    reduce(copy, swaps)
 }
 
 /// B becomes I − B.
@@ -145,11 +151,11 @@ fn reduce_row(copy: &mut System, k: usize, i: usize) -> Result<(), Stop> {
     Ok(())
 }
 
-fn substitute_back(copy: &System) -> Result<Vec<Interval>, Stop> {
+fn substitute_back(rounding: Rounding, copy: &System) -> Result<Vec<Interval>, Stop> {
     let n = copy.size();
     let mut x = vec![Interval::point(0); n];
     for i in (1..=n).rev() {
-        let numerator = tested(numerator(copy, &x, i), Phase::Numerator, i)?;
+        let numerator = tested(numerator(rounding, copy, &x, i), Phase::Numerator, i)?;
         let quotient = rounded_quotient(numerator, copy.a(i, i));
         x[i - 1] = tested(quotient, Phase::Quotient, i)?;
     }
@@ -157,10 +163,9 @@ fn substitute_back(copy: &System) -> Result<Vec<Interval>, Stop> {
 }
 
 /// f(i) less the products with the x(j) right of the diagonal, before its test.
-pub fn numerator(copy: &System, x: &[Interval], i: usize) -> WideInterval {
+pub fn numerator(rounding: Rounding, copy: &System, x: &[Interval], i: usize) -> WideInterval {
     let right_of_diagonal = i + 1..=copy.size();
-    let products = right_of_diagonal.map(|j| rounded_product(copy.a(i, j), x[j - 1]));
-    let sum = products.fold(WideInterval::ZERO, |sum, product| sum + product);
+    let sum = rounding.sum(right_of_diagonal.map(|j| (copy.a(i, j), x[j - 1])));
     WideInterval::from(copy.f(i)) - sum
 }
 

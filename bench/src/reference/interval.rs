@@ -46,6 +46,14 @@ impl Interval {
 impl WideInterval {
     pub const ZERO: WideInterval = WideInterval { lo: 0, hi: 0 };
 
+    /// From units of units to units, outward.
+    pub fn rounded(self) -> WideInterval {
+        WideInterval {
+            lo: floor(self.lo, SCALE),
+            hi: ceiling(self.hi, SCALE),
+        }
+    }
+
     /// The same interval, unless an end is out of the range.
     pub fn within_range(self) -> Option<Interval> {
         if in_range(self.lo) && in_range(self.hi) {
@@ -88,14 +96,18 @@ impl Sub for WideInterval {
     }
 }
 
-/// The narrowest interval with ends in units around all products. A product of
-/// two counts of units is in units of units, hence the division.
-pub fn rounded_product(a: Interval, b: Interval) -> WideInterval {
+/// All products. A product of two counts of units is in units of units.
+pub fn exact_product(a: Interval, b: Interval) -> WideInterval {
     let products = corners(a, b).map(|(x, y)| x * y);
     WideInterval {
-        lo: floor(lowest(products), SCALE),
-        hi: ceiling(highest(products), SCALE),
+        lo: lowest(products),
+        hi: highest(products),
     }
+}
+
+/// The narrowest interval with ends in units around all products.
+pub fn rounded_product(a: Interval, b: Interval) -> WideInterval {
+    exact_product(a, b).rounded()
 }
 
 /// The narrowest interval with ends in units around all quotients; `b` must

@@ -1,8 +1,10 @@
-//! The sweep call of document 01, written from its words alone.
+//! The sweep call of document 01, with the rows of document 02's A4, written from
+//! their words alone.
 
-use super::interval::{rounded_product, Interval, WideInterval};
+use super::interval::{Interval, WideInterval};
 use super::numbers::{DONE, EMPTY, FAULTY_ALLOWANCE, SPENT};
 use super::outcome::{Outcome, Stop};
+use super::rows::Rounding;
 use super::system::{intervals, laid_flat, test_ends, test_lengths, test_size, System};
 
 /// The greatest number of sweeps that may be allowed.
@@ -32,13 +34,13 @@ pub enum SweepEnd {
 
 /// Sweeps x = B·x + b over the start box.
 pub fn sweep(n: usize, b_matrix: &[i64], b: &[i64], bounds: &mut [i64], allowed: usize) -> Outcome {
-    sweep_end(n, b_matrix, b, bounds, allowed).finish(bounds)
+    sweep_end(Rounding::Once, n, [b_matrix, b, bounds], allowed).finish(bounds)
 }
 
-/// One call with all that can be known of it.
-pub fn sweep_end(n: usize, b_matrix: &[i64], b: &[i64], start: &[i64], allowed: usize) -> SweepEnd {
-    match read(n, [b_matrix, b, start], allowed) {
-        Ok((balance, start)) => sweeps(&balance, start, allowed),
+/// One call over matrix, right side and start box with all that can be known of it.
+pub fn sweep_end(rounding: Rounding, n: usize, lent: [&[i64]; 3], allowed: usize) -> SweepEnd {
+    match read(n, lent, allowed) {
+        Ok((balance, start)) => swept(rounding, &balance, start, allowed),
         Err(end) => end,
     }
 }
@@ -64,11 +66,15 @@ fn test_allowed(allowed: usize) -> Result<(), SweepEnd> {
 
 /// The calculation on intervals that have passed every test.
 pub fn sweeps(balance: &System, start: Vec<Interval>, allowed: usize) -> SweepEnd {
+    swept(Rounding::Once, balance, start, allowed)
+}
+
+fn swept(rounding: Rounding, balance: &System, start: Vec<Interval>, allowed: usize) -> SweepEnd {
     let mut x = start;
     let mut whole = 0;
     while whole < allowed {
         let before = x.clone();
-        if let Err(vat) = sweep_once(balance, &mut x) {
+        if let Err(vat) = sweep_once(rounding, balance, &mut x) {
             let count = whole as u64;
             return SweepEnd::Empty { vat, count };
         }
@@ -84,20 +90,19 @@ pub fn sweeps(balance: &System, start: Vec<Interval>, allowed: usize) -> SweepEn
 
 /// The vat is given back if its intersection is empty. Before vat i everything
 /// in `x` is new, from i on everything is old.
-fn sweep_once(balance: &System, x: &mut [Interval]) -> Result<(), usize> {
+fn sweep_once(rounding: Rounding, balance: &System, x: &mut [Interval]) -> Result<(), usize> {
     for i in 1..=balance.size() {
-        let sum = right_hand(balance, x, i);
+        let sum = right_hand(rounding, balance, x, i);
         x[i - 1] = intersection(sum, x[i - 1]).ok_or(i)?;
     }
     Ok(())
 }
 
-/// b(i) and all B(i,j)·X(j), each product rounded by itself, added exactly.
-pub fn right_hand(balance: &System, x: &[Interval], i: usize) -> WideInterval {
+/// b(i) and all B(i,j)·X(j).
+fn right_hand(rounding: Rounding, balance: &System, x: &[Interval], i: usize) -> WideInterval {
     let columns = 1..=balance.size();
-    let products = columns.map(|j| rounded_product(balance.a(i, j), x[j - 1]));
-    let start = WideInterval::from(balance.f(i));
-    products.fold(start, |sum, product| sum + product)
+    let sum = rounding.sum(columns.map(|j| (balance.a(i, j), x[j - 1])));
+    WideInterval::from(balance.f(i)) + sum
 }
 
 /// Nothing if the two do not meet. Otherwise both ends lie in the old interval

@@ -5,8 +5,8 @@ mod program;
 use kifwaleb_bench::archive::Archive;
 use kifwaleb_bench::comparison::{compare, goals, Elimination, Goal, Pair, Trial};
 use kifwaleb_bench::generator::{
-    boxes_up_to, edge_cases, edge_lists, edge_pairs, edge_texts, random_cases, random_lists,
-    random_pairs, random_texts, searches, starts_up_to,
+    boxes_up_to, edge_cases, edge_lists, edge_pairs, edge_texts, insides, random_cases,
+    random_lists, random_pairs, random_texts, searches, starts_up_to,
 };
 use kifwaleb_bench::plan::{Plan, USAGE};
 use kifwaleb_bench::reference::{Call, Operation, MOST_EQUATIONS};
@@ -39,6 +39,7 @@ fn all_hold(plan: &Plan) -> bool {
         && sweeps_hold(plan)
         && reports_hold(plan)
         && searches_hold(plan)
+        && boxes_lie_inside(plan)
         && program::holds(plan)
 }
 
@@ -122,6 +123,17 @@ fn searches_hold(plan: &Plan) -> bool {
     let (goals, searches) = (goals::of_search(), searches(plan.seed));
     let kind = "random searches";
     holds("first_byte", kind, goals, searches, plan.searches)
+}
+
+fn boxes_lie_inside(plan: &Plan) -> bool {
+    let (goals, insides) = (goals::of_inside(), insides(plan.seed));
+    holds(
+        "inside",
+        "random pairs of calls",
+        goals,
+        insides,
+        plan.inside,
+    )
 }
 
 /// Compares one row and prints the difference, or what was reached. True if

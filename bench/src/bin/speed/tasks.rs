@@ -227,6 +227,6 @@ mod tests {
     #[test]
     fn the_shares_are_swept_more_than_once() {
         let (_, _, sheet) = reported("sheet-shares");
-        assert!(sheet.ends_with("\nsettled 19\n"), "{sheet}");
+        assert!(sheet.ends_with("\nsettled 18\n"), "{sheet}");
     }
 }

@@ -2,7 +2,7 @@
 
 use crate::generator::systems::balance::balance_of;
 use crate::generator::systems::matrices;
-use crate::generator::Random;
+use crate::generator::{rows, Random};
 use crate::reference::{Interval, System, LIMIT};
 
 const ONE: i64 = 1_000_000;
@@ -18,7 +18,7 @@ struct Style {
 
 /// A balance of any kind.
 pub fn any(random: &mut Random, n: usize) -> System {
-    match random.below(12) {
+    match random.below(13) {
         0..=3 => full(random, n, &[300_000, 900_000, 999_999]),
         4 | 5 => full(random, n, &[ONE, 1_100_000, 2 * ONE, 50 * ONE]),
         6 => balance_of(&matrices::any(random, n)),
@@ -26,6 +26,7 @@ pub fn any(random: &mut Random, n: usize) -> System {
         8 => halves(random, n),
         9 => ring(random, n),
         10 => slow(random, n),
+        11 => rows::any(random, n),
         _ => free(random, n),
     }
 }

@@ -2,6 +2,7 @@
 
 use super::{faults, lent, slow, small};
 use crate::case_file::Entry;
+use crate::generator::rows;
 use crate::reference::{Interval, System, LIMIT};
 use crate::samples;
 use crate::sweep_list::{Solution, SweepList};
@@ -24,6 +25,7 @@ pub fn edge_lists() -> impl Iterator<Item = SweepList> {
         .chain(faults::two_ends())
         .chain(small::one_vat())
         .chain(far_sums())
+        .chain(carries())
         .chain(chains())
         .chain(touching())
         .chain(small::awkward_numbers())
@@ -42,6 +44,16 @@ fn solved() -> impl Iterator<Item = SweepList> {
             numerators: weights.to_vec(),
             denominator: 1,
         }),
+    })
+}
+
+/// From any weight of the vat with the row; the others have theirs.
+fn carries() -> impl Iterator<Item = SweepList> {
+    rows::carries().map(|balance| {
+        let keeps = |i| (1..=32).all(|j| balance.a(i, j) == Interval::point(0));
+        let any = Interval::new(-LIMIT, LIMIT);
+        let start = (1..=32).map(|i| if keeps(i) { balance.f(i) } else { any });
+        SweepList::new(lent(&balance, &start.collect::<Vec<_>>()), &[1, 2])
     })
 }
 
@@ -107,17 +119,17 @@ fn touching() -> impl Iterator<Item = SweepList> {
 /// do not.
 fn far_sums() -> impl Iterator<Item = SweepList> {
     let sizes = [1, 2, 3, 4, 31, 32].into_iter();
-    let every = sizes.flat_map(|n| (0..24).map(move |code| (n, code)));
+    let every = sizes.flat_map(|n| (0..72).map(move |code| (n, code)));
     every.map(|(n, code)| {
         let far = [LIMIT, -LIMIT][code % 2];
         let step = [0, 1, 2][code / 2 % 3];
-        let width = [0, 1, 2_000, LIMIT][code / 6];
+        let width = [0, 1, 2_000, LIMIT][code / 6 % 4];
+        let signs = [[1, -1], [1, 1], [-1, -1]][code / 24];
         let mut balance = System::noughts(n);
         balance.set_f(1, Interval::point(far));
         balance.set_a(1, 1, Interval::new(step - 1, step));
         for j in 2..=n {
-            let sign = if j % 2 == 0 { 1 } else { -1 };
-            balance.set_a(1, j, Interval::point(sign * LIMIT));
+            balance.set_a(1, j, Interval::point(signs[j % 2] * LIMIT));
             balance.set_f(j, Interval::point(far));
         }
         let [low, high] = [far, far - far.signum() * width];

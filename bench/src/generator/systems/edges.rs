@@ -5,6 +5,7 @@ use super::spots::{spots, Spot};
 use super::{boxes, faults, small};
 use crate::case::Case;
 use crate::case_file::Entry;
+use crate::generator::rows;
 use crate::reference::{Call, Interval, System, MOST_EQUATIONS};
 use crate::samples::{self, identity};
 use std::ops::RangeInclusive;
@@ -24,7 +25,8 @@ pub fn edge_cases(call: Call) -> impl Iterator<Item = Case> {
     let small = small::awkward_numbers()
         .chain(single_spots(1..=FEW))
         .chain(pairs_of_spots())
-        .chain(rotated());
+        .chain(rotated())
+        .chain(rows::carries().map(|balance| balance_of(&balance)));
     let native = small::two_equations().map(|system| Case::new(&system));
     let great = single_spots(FEW + 1..=MOST_EQUATIONS);
     let cases = sampled(call)

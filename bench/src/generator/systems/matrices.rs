@@ -1,7 +1,8 @@
 //! Random systems A·x = f of several kinds.
 
 use super::balance::balance_of;
-use crate::generator::Random;
+use super::spots::escaping;
+use crate::generator::{rows, Random};
 use crate::reference::{Interval, System, LIMIT};
 
 const ONE: i64 = 1_000_000;
@@ -31,7 +32,7 @@ struct Style {
 
 /// A system of any kind.
 pub fn any(random: &mut Random, n: usize) -> System {
-    match random.below(40) {
+    match random.below(44) {
         0..=5 => dominant(random, n),
         6 | 7 => shares(random, n),
         8 => triangular(random, n, true),
@@ -42,7 +43,9 @@ pub fn any(random: &mut Random, n: usize) -> System {
         13 => cancelling(random, n),
         14 => sparse(random, n),
         15 => free(random, n),
-        16..=33 => shuffled(random, n),
+        16 | 17 => balance_of(&rows::any(random, n)),
+        18 | 19 => escaping(random, n),
+        20..=37 => shuffled(random, n),
         _ => holed(random, n),
     }
 }

@@ -1,7 +1,9 @@
 //! Spots: a few entries, set into a system of ones on the diagonal, that bring
 //! one result of the elimination to a limit or one unit past it.
 
+use crate::generator::Random;
 use crate::reference::{Interval, System, LIMIT};
+use crate::samples::identity;
 
 const ONE: i64 = 1_000_000;
 const ZERO: Interval = Interval::point(0);
@@ -73,6 +75,7 @@ pub fn spots(n: usize) -> Vec<Spot> {
             found.extend(numerators(i, j));
             for l in chosen(n, j + 1, n) {
                 found.extend(cancelling_numerators(i, j, l));
+                found.extend(halved_numerators(i, j, l));
             }
         }
     }
@@ -163,6 +166,34 @@ fn cancelling_numerators(i: usize, j: usize, l: usize) -> impl Iterator<Item = S
     })
 }
 
+/// Two products of about half a unit that come to one or two, rounded once.
+fn halved_numerators(i: usize, j: usize, l: usize) -> impl Iterator<Item = Spot> {
+    SIDES.into_iter().flat_map(move |(sign, past)| {
+        let sums = [(499_999, 1), (500_000, 1), (500_001, 2)];
+        sums.map(|(entry, units)| {
+            spot(&[
+                a(i, i, 4 * ONE),
+                a(i, j, 500_000),
+                f(j, sign),
+                a(i, l, entry),
+                f(l, sign),
+                f(i, sign * (units - LIMIT - past)),
+            ])
+        })
+    })
+}
+
+/// One or two such numerators. With each product rounded they are all past the limit.
+pub fn escaping(random: &mut Random, n: usize) -> System {
+    let mut system = identity(n);
+    for _ in 0..random.between(1, 2).min(n as i64 - 2) {
+        let row = random.between(1, n as i64 - 2) as usize;
+        let spots: Vec<_> = halved_numerators(row, n - 1, n).collect();
+        spots[random.below(spots.len() as u64) as usize].plant(&mut system);
+    }
+    system
+}
+
 fn quotients(i: usize) -> impl Iterator<Item = Spot> {
     SIDES.into_iter().flat_map(move |(sign, past)| {
         let up_to_one = Setting::A(i, i, Interval::new(1, ONE));
@@ -186,7 +217,6 @@ fn formings(i: usize) -> impl Iterator<Item = Spot> {
 mod tests {
     use super::*;
     use crate::reference::{calculate, Call, Phase, Stop};
-    use crate::samples::identity;
 
     /// How many spots in four equations stop so, how many are accepted, and how
     /// many there are.
@@ -228,6 +258,7 @@ mod tests {
                 assert_halved(numerators(i, j), Phase::Numerator, i);
                 for l in j + 1..=4 {
                     assert_halved(cancelling_numerators(i, j, l), Phase::Numerator, i);
+                    assert_halved(halved_numerators(i, j, l), Phase::Numerator, i);
                 }
             }
         }

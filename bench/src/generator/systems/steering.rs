@@ -2,7 +2,8 @@
 //! to a limit, or a unit past it.
 
 use crate::generator::Random;
-use crate::reference::{calculate, numerator, Call, Interval, System, WideInterval, LIMIT};
+use crate::reference::{calculate, numerator, Call, Interval, Rounding};
+use crate::reference::{System, WideInterval, LIMIT};
 
 const ONE: i64 = 1_000_000;
 const ZERO: Interval = Interval::point(0);
@@ -135,7 +136,7 @@ fn part_below(system: &mut System, i: usize) {
 fn last_division(system: &System, i: usize) -> Option<(WideInterval, Interval)> {
     let trace = calculate(Call::Eliminate, system.clone());
     let (copy, x) = (trace.copy?, trace.end.ok()?);
-    Some((numerator(&copy, &x, i), copy.a(i, i)))
+    Some((numerator(Rounding::Once, &copy, &x, i), copy.a(i, i)))
 }
 
 fn to_great_numerator(random: &mut Random, system: &mut System, i: usize) {
