@@ -88,9 +88,9 @@ pub fn slow_noughts(n: usize) -> Case {
     settling(n, n, CHANGES)
 }
 
-/// The last vat as in `slow_noughts`; the others are dense and settled.
-pub fn slow_dense(n: usize) -> Case {
-    let mut others = shares(n - 1);
+/// The last vat as in `slow_noughts`; the others are settled.
+pub fn slow(mut others: Case) -> Case {
+    let n = others.n + 1;
     assert_eq!(eliminate(&mut others), Outcome::DONE);
     let Case {
         matrix,

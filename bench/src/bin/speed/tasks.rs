@@ -1,7 +1,7 @@
 //! What is done by both sides.
 
 use crate::balances::{
-    heavy_row, longest, mixed, noughts, shares, slow_dense, slow_noughts, with_wide_box,
+    heavy_row, longest, mixed, noughts, shares, slow, slow_noughts, with_wide_box,
 };
 use kifwaleb_bench::archive::Archive;
 use kifwaleb_bench::case::{Case, Slices};
@@ -24,7 +24,7 @@ pub enum Side {
 /// What a task is called, and how it is made for so many vats.
 pub type Kind = (&'static str, fn(usize) -> Task);
 
-pub const KINDS: [Kind; 13] = [
+pub const KINDS: [Kind; 14] = [
     ("eliminate-shares", |n| Task::Eliminate(shares(n))),
     ("eliminate-mixed", |n| Task::Eliminate(mixed(n))),
     ("start-shares", |n| Task::Start(shares(n))),
@@ -35,7 +35,8 @@ pub const KINDS: [Kind; 13] = [
     ("slow-noughts", |n| {
         Task::sweep(slow_noughts(n), MOST_SWEEPS)
     }),
-    ("slow-dense", |n| Task::sweep(slow_dense(n), MOST_SWEEPS)),
+    ("slow-dense", |n| Task::sweep(slow(shares(n - 1)), MOST_SWEEPS)),
+    ("slow-mixed", |n| Task::sweep(slow(mixed(n - 1)), MOST_SWEEPS)),
     ("read-longest", |n| Task::report(&crossed(longest(n)))),
     ("read-noughts", |n| {
         Task::on_text(short_named_text(&crossed(noughts(n))))
