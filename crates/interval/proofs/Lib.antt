@@ -4,3 +4,4 @@ pub mod Scaled
 pub mod Signs
 pub mod Quotient
 pub mod Answer
+pub mod Exchanged

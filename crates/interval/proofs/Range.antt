@@ -1,5 +1,5 @@
 -- What the tests on an interval say of its ends, and that the machine holds the sums and products of acceptable intervals.
-use mathlib.Core.Path.{_≡_, refl, sym, subst}
+use mathlib.Core.Path.{_≡_, refl, sym, subst, _∙_}
 use mathlib.Core.Bool.{Bool, true, false, _&&_}
 use mathlib.Core.Logic.{_⊎_, inl, inr, ⊎-elim}
 use native.Mathlib.Omega.{arith}
@@ -9,12 +9,13 @@ use lib.Signed.{_≤ℤ_, _<ℤ_, ltZ, leZ, leZ-yes, ltZ-yes, clashℤ}
 use mir.Syntax.{w64}
 use mir.Val.{SFits, toZ, ofZ}
 use mir.ValLaws.{toZ-ofZ}
+use Rattle.integer.specs.Extremes.{maximum}
 use Rattle.integer.proofs.Linear.{linear, over}
 use Rattle.integer.proofs.Order.{also, prod, lt-le, taken, left, le-taken, le-left, yes-le, turn-le}
 use Rattle.integer.proofs.Machine.{fits64, op-safe, op-read}
 use Rattle.interval.specs.declared.Interval.{Interval}
 use Rattle.interval.specs.Interval.{scale, lowest, highest, within, inRange, acceptable, containsZero, exactSum, exactDifference}
-use Rattle.interval.specs.Code.{Representable, negated}
+use Rattle.interval.specs.Code.{Representable, GreatestWith, negated}
 
 pub and-both : (a b : Bool) → (a && b) ≡ true → (a ≡ true) × (b ≡ true)
 and-both true b e = (refl, e)
@@ -133,6 +134,20 @@ module _ {a b : ℤ} (h : Within a) (k : Within b) where
 
   pub product-read : toZ w64 (ofZ w64 (toZ w64 (ofZ w64 a) *ℤ toZ w64 (ofZ w64 b))) ≡ a *ℤ b
   product-read = op-read _*ℤ_ a b (within-fits h) (within-fits k) (product-fits h k)
+
+-- the end that was chosen for a product with z
+module _ {a b z e : ℤ} (h : Within a) (k : Within b) (l : Within z) (g : GreatestWith (toZ w64 (ofZ w64 a)) (toZ w64 (ofZ w64 b)) (toZ w64 (ofZ w64 z)) e) where
+  chosen : GreatestWith a b z e
+  chosen = rw (read h, read k, read l) at g
+
+  chosen-within : Within e
+  chosen-within = ⊎-elim (λ (p : e ≡ a). subst Within (sym p) h) (λ (p : e ≡ b). subst Within (sym p) k) (chosen .one)
+
+  pub chosen-safe : SFits w64 (toZ w64 (ofZ w64 e) *ℤ toZ w64 (ofZ w64 z))
+  chosen-safe = product-safe chosen-within l
+
+  pub chosen-read : toZ w64 (ofZ w64 (toZ w64 (ofZ w64 e) *ℤ toZ w64 (ofZ w64 z))) ≡ maximum (a *ℤ z) (b *ℤ z)
+  chosen-read = product-read chosen-within l ∙ chosen .is
 
 pub scale-above : pos 0 <ℤ scale
 unfolding scale

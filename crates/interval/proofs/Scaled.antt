@@ -40,6 +40,13 @@ greatest-bounded v w =
     greatest-ind _ _ _ _ Bounded
     (product-bounded (v .lo-in) (w .lo-in)) (product-bounded (v .lo-in) (w .hi-in)) (product-bounded (v .hi-in) (w .lo-in)) (product-bounded (v .hi-in) (w .hi-in))
 
+-- and they are as the code has them
+pub bounded-read : {p : ℤ} → Bounded p → toZ w64 (ofZ w64 p) ≡ p
+bounded-read {p} h = toZ-ofZ w64 p (go p (h .0) (h .1))
+  where
+    go : (p : ℤ) → negsuc 3999999999999999999 ≤ℤ p → p ≤ℤ pos 4000000000000000000 → SFits w64 p
+    go = over 1 _ (λ ρ. simp (fits64, linear, ρ) (omega arith))
+
 -- ---- as the code has it: p and a bias b that is less than one scale above the 4·10^12
 module _ (p b : ℤ) (f : SFits w64 p) (h : Bounded p) (l : pos 4000000000000000000 ≤ℤ b) (u : b ≤ℤ pos 4000000000000999999) where
   fits : SFits w64 (p +ℤ b)

@@ -21,14 +21,11 @@ module _ {x y : Interval} (v : Sound x) (w : Sound y) where
     pub above-least-below : y .lo ≤ℤ pos 0 → leastProduct x y ≡ x .hi *ℤ y .lo
     above-least-below k = above-least ∙ min-is-right (anti _ _ (y .lo) k (v .order))
 
-    above-greatest : greatestProduct x y ≡ maximum (x .lo *ℤ y .hi) (x .hi *ℤ y .hi)
+    pub above-greatest : greatestProduct x y ≡ maximum (x .lo *ℤ y .hi) (x .hi *ℤ y .hi)
     above-greatest = ap₂ maximum (max-is-right (mono-left (x .lo) _ _ h (w .order))) (max-is-right (mono-left (x .hi) _ _ (trans h (v .order)) (w .order)))
 
     pub above-greatest-above : pos 0 ≤ℤ y .hi → greatestProduct x y ≡ x .hi *ℤ y .hi
     above-greatest-above k = above-greatest ∙ max-is-right (mono _ _ (y .hi) k (v .order))
-
-    pub above-greatest-below : y .hi ≤ℤ pos 0 → greatestProduct x y ≡ x .lo *ℤ y .hi
-    above-greatest-below k = above-greatest ∙ max-is-left (anti _ _ (y .hi) k (v .order))
 
   -- the left operand is not above 0: the other way round
   module _ (h : x .hi ≤ℤ pos 0) where
@@ -41,11 +38,8 @@ module _ {x y : Interval} (v : Sound x) (w : Sound y) where
     pub below-least-below : y .hi ≤ℤ pos 0 → leastProduct x y ≡ x .hi *ℤ y .hi
     below-least-below k = below-least ∙ min-is-right (anti _ _ (y .hi) k (v .order))
 
-    below-greatest : greatestProduct x y ≡ maximum (x .lo *ℤ y .lo) (x .hi *ℤ y .lo)
+    pub below-greatest : greatestProduct x y ≡ maximum (x .lo *ℤ y .lo) (x .hi *ℤ y .lo)
     below-greatest = ap₂ maximum (max-is-left (anti-left (x .lo) _ _ (trans (v .order) h) (w .order))) (max-is-left (anti-left (x .hi) _ _ h (w .order)))
-
-    pub below-greatest-above : pos 0 ≤ℤ y .lo → greatestProduct x y ≡ x .hi *ℤ y .lo
-    below-greatest-above k = below-greatest ∙ max-is-right (mono _ _ (y .lo) k (v .order))
 
     pub below-greatest-below : y .lo ≤ℤ pos 0 → greatestProduct x y ≡ x .lo *ℤ y .lo
     below-greatest-below k = below-greatest ∙ max-is-left (anti _ _ (y .lo) k (v .order))

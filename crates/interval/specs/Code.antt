@@ -1,7 +1,10 @@
 -- What the contracts of the internal functions speak of. No public contract cites it.
-use lib.IntN.{negℤ}
+use mathlib.Core.Path.{_≡_}
+use mathlib.Core.Logic.{_⊎_}
+use lib.IntN.{ℤ, negℤ, _*ℤ_}
 use mir.Syntax.{w64}
 use mir.Val.{SFits}
+use Rattle.integer.specs.Extremes.{maximum}
 use Rattle.interval.specs.declared.Interval.{Interval}
 use Rattle.interval.specs.declared.Operation.{Operation}
 use Rattle.interval.specs.declared.Operation.the-variants.{Sum, Difference, Product, Quotient}
@@ -23,3 +26,8 @@ calculated Quotient x y = divided x y
 -- all signs turned
 abbrev pub negated : Interval → Interval
 negated v = record { lo = negℤ (v .hi); hi = negℤ (v .lo) }
+
+-- e is a or b, and has the greater product with z
+pub record GreatestWith (a b z e : ℤ) : Type 0 where
+  pub one : (e ≡ a) ⊎ (e ≡ b)
+  pub is : e *ℤ z ≡ maximum (a *ℤ z) (b *ℤ z)

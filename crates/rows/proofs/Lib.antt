@@ -1,6 +1,7 @@
 pub mod Size
 pub mod Sum
 pub mod Exact
+pub mod Next
 pub mod Once
 pub mod Encloses
 pub mod Whole

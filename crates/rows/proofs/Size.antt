@@ -65,12 +65,12 @@ pub acceptable-small : (v : Interval) → acceptable v ≡ true → Small 200000
 unfolding lowest highest
 acceptable-small v e = let h = is-sound v e in record { low = h .lo-in .low; order = h .order; high = h .hi-in .high }
 
-pub small-fits : {k : ℕ} {v : Interval} → k ≤ 1000000000000000000 → Small k v → Representable v
+pub small-fits : {k : ℕ} {v : Interval} → k ≤ 9000000000000000000 → Small k v → Representable v
 small-fits {k} {v} b h =
-    let m : pos k ≤ℤ pos 1000000000000000000 = record { le = le→leb k 1000000000000000000 b } in
+    let m : pos k ≤ℤ pos 9000000000000000000 = record { le = le→leb k 9000000000000000000 b } in
     record { lo-fits = fit (pos k) (v .lo) m (h .low) (trans (h .order) (h .high)); hi-fits = fit (pos k) (v .hi) m (trans (h .low) (h .order)) (h .high) }
   where
-    fit : (k z : ℤ) → k ≤ℤ pos 1000000000000000000 → negℤ k ≤ℤ z → z ≤ℤ k → SFits w64 z
+    fit : (k z : ℤ) → k ≤ℤ pos 9000000000000000000 → negℤ k ≤ℤ z → z ≤ℤ k → SFits w64 z
     fit = over 2 _ (λ ρ. simp (fits64, linear, ρ) (omega arith))
 
 -- ---- a product, unrounded and rounded

@@ -12,13 +12,7 @@ use Rattle.inputs.specs.Place.{at}
 use Rattle.wide_sum.proofs.Parts.{floor-whole, ceil-whole}
 use Rattle.rows.specs.Sum.{exactly, once}
 use Rattle.rows.specs.Whole.{inParts, WholeRowOnce}
-
-sum-assoc : (u v w : Interval) → exactSum (exactSum u v) w ≡ exactSum u (exactSum v w)
-unfolding exactSum
-sum-assoc u v w = same-ends _ _ (assoc (u .lo) (v .lo) (w .lo)) (assoc (u .hi) (v .hi) (w .hi))
-  where
-    assoc : (a b c : ℤ) → ((a +ℤ b) +ℤ c) ≡ (a +ℤ (b +ℤ c))
-    assoc = over 3 _ (λ ρ. simp reading (ring _ _ _ tt))
+use Rattle.rows.proofs.Exact.{sum-assoc}
 
 sum-nought : (u : Interval) → exactSum u noughtInterval ≡ u
 unfolding exactSum

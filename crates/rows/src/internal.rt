@@ -1,9 +1,11 @@
-use inputs::internal::read;
+mod next;
+
+use crate::internal::next::next_one;
+use crate::internal::next::next_two;
 use interval::Interval;
 use wide_sum::WideInterval;
 use wide_sum::internal::rounding::rounded;
 use wide_sum::internal::sum::nought;
-use wide_sum::internal::sum::with_product;
 ghost use mathlib.Core.Path.{_≡_};
 ghost use Prim.Native.Nat.{_+_, _*_, _≤_};
 ghost use lib.ListN.{length};
@@ -27,10 +29,12 @@ pub fn exact_sum(
     ensures { λ r. ⌜ Summed acc (now (m .entry)) p (now (x .entry)) q d r ⌝ }
 {
     let mut sum = acc;
-    for j in 0..d {
-        let a = read(m, p + j);
-        let b = read(x, q + j);
-        sum = with_product(sum, a, b);
+    let k = d / 2;
+    for j in 0..k {
+        sum = next_two(sum, m, p + 2 * j, x, q + 2 * j);
+    }
+    if 2 * k < d {
+        return next_one(sum, m, p + 2 * k, x, q + 2 * k);
     }
     sum
 }

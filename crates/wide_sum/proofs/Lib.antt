@@ -1,5 +1,4 @@
 pub mod Near
 pub mod Carry
 pub mod Lowered
-pub mod Product
 pub mod Parts

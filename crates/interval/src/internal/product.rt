@@ -6,7 +6,8 @@ ghost use mathlib.Core.Bool.{true};
 ghost use lib.IntN.{pos, negsuc};
 ghost use lib.Signed.{_≤ℤ_};
 ghost use Rattle.integer.specs.Rounding.{floorDiv, ceilDiv};
-ghost use Rattle.interval.specs.Interval.{scale, acceptable, leastProduct, greatestProduct, product};
+ghost use Rattle.interval.specs.Interval.{scale, acceptable, exactProduct, product};
+ghost use Rattle.interval.specs.Code.{GreatestWith};
 
 // Rounding by the scale is one unsigned division by a constant: BIAS, a multiple of the scale, lifts every product of two ends to 0 or more.
 const SCALE: u64 = Interval::SCALE as u64;
@@ -41,54 +42,105 @@ pub fn scaled_up(p: i64) -> i64
     q - BIAS_IN_SCALES
 }
 
-// The least of the four products of ends. Unless the left operand lies across 0 the signs tell which it is.
-pub fn least_product(x: Interval, y: Interval) -> i64
+// The product of two intervals that are not below 0, unrounded.
+pub fn product_above(x: Interval, y: Interval) -> Interval
     requires { ⌜ acceptable x ≡ true ⌝ }
     requires { ⌜ acceptable y ≡ true ⌝ }
-    ensures { λ r. ⌜ r ≡ leastProduct x y ⌝ }
+    requires { ⌜ (pos 0 ≤ℤ x .lo) × (pos 0 ≤ℤ y .lo) ⌝ }
+    ensures { λ r. ⌜ r ≡ exactProduct x y ⌝ }
 {
     let a = x.lo;
     let b = x.hi;
     let c = y.lo;
     let d = y.hi;
-    if 0 <= a {
-        if c < 0 {
-            return b * c;
-        }
-        return a * c;
-    }
-    if b <= 0 {
-        if d < 0 {
-            return b * d;
-        }
-        return a * d;
-    }
-    min_of(a * d, b * c)
+    let lo = a * c;
+    let hi = b * d;
+    Interval { lo, hi }
 }
 
-// The greatest of them.
-pub fn greatest_product(x: Interval, y: Interval) -> i64
+// Of the ends a and b the one whose product with z is the greatest: chosen before it is multiplied, so that no jump is to be foreseen.
+fn end_with(a: i64, b: i64, z: i64) -> i64
+    requires { ⌜ a ≤ℤ b ⌝ }
+    ensures { λ r. ⌜ GreatestWith a b z r ⌝ }
+{
+    if z < 0 {
+        return a;
+    }
+    b
+}
+
+// The product of an interval that is not below 0 and any other: the signs tell which ends count.
+fn above_times(x: Interval, y: Interval) -> Interval
     requires { ⌜ acceptable x ≡ true ⌝ }
     requires { ⌜ acceptable y ≡ true ⌝ }
-    ensures { λ r. ⌜ r ≡ greatestProduct x y ⌝ }
+    requires { ⌜ pos 0 ≤ℤ x .lo ⌝ }
+    ensures { λ r. ⌜ r ≡ exactProduct x y ⌝ }
 {
     let a = x.lo;
     let b = x.hi;
     let c = y.lo;
     let d = y.hi;
-    if 0 <= a {
-        if d < 0 {
-            return a * d;
-        }
-        return b * d;
+    if 0 <= c {
+        return product_above(x, y);
     }
-    if b <= 0 {
-        if c < 0 {
-            return a * c;
-        }
-        return b * c;
+    let e = end_with(a, b, d);
+    let lo = b * c;
+    let hi = e * d;
+    Interval { lo, hi }
+}
+
+// The same of one that is not above 0.
+fn below_times(x: Interval, y: Interval) -> Interval
+    requires { ⌜ acceptable x ≡ true ⌝ }
+    requires { ⌜ acceptable y ≡ true ⌝ }
+    requires { ⌜ x .hi ≤ℤ pos 0 ⌝ }
+    ensures { λ r. ⌜ r ≡ exactProduct x y ⌝ }
+{
+    let a = x.lo;
+    let b = x.hi;
+    let c = y.lo;
+    let d = y.hi;
+    if d < 0 {
+        return Interval {
+            lo: b * d,
+            hi: a * c,
+        };
     }
-    max_of(a * c, b * d)
+    let e = end_with(a, b, c);
+    let lo = a * d;
+    let hi = e * c;
+    Interval { lo, hi }
+}
+
+// The same of one that lies across 0.
+fn across_times(x: Interval, y: Interval) -> Interval
+    requires { ⌜ acceptable x ≡ true ⌝ }
+    requires { ⌜ acceptable y ≡ true ⌝ }
+    requires { ⌜ (x .lo ≤ℤ pos 0) × (pos 0 ≤ℤ x .hi) ⌝ }
+    ensures { λ r. ⌜ r ≡ exactProduct x y ⌝ }
+{
+    let a = x.lo;
+    let b = x.hi;
+    let c = y.lo;
+    let d = y.hi;
+    let lo = min_of(a * d, b * c);
+    let hi = max_of(a * c, b * d);
+    Interval { lo, hi }
+}
+
+// The least and the greatest of the four products of ends, unrounded. The left operand's signs are looked at first.
+pub fn exact_product(x: Interval, y: Interval) -> Interval
+    requires { ⌜ acceptable x ≡ true ⌝ }
+    requires { ⌜ acceptable y ≡ true ⌝ }
+    ensures { λ r. ⌜ r ≡ exactProduct x y ⌝ }
+{
+    if 0 <= x.lo {
+        return above_times(x, y);
+    }
+    if x.hi < 0 {
+        return below_times(x, y);
+    }
+    across_times(x, y)
 }
 
 // The product, rounded outwards, without a range test.
@@ -97,9 +149,8 @@ pub fn product(x: Interval, y: Interval) -> Interval
     requires { ⌜ acceptable y ≡ true ⌝ }
     ensures { λ r. ⌜ r ≡ product x y ⌝ }
 {
-    let p = least_product(x, y);
-    let q = greatest_product(x, y);
-    let lo = scaled_down(p);
-    let hi = scaled_up(q);
+    let p = exact_product(x, y);
+    let lo = scaled_down(p.lo);
+    let hi = scaled_up(p.hi);
     Interval { lo, hi }
 }

@@ -1,13 +1,11 @@
-use mathlib.Core.Path.{subst}
-use lib.IntN.{ℤ, pos}
+use lib.IntN.{pos}
 use lib.Signed.{_≤ℤ_}
 use mir.Syntax.{w64}
 use mir.ValLaws.{toZ-ofZ}
 use borrow.Author.Needs.{needs}
 use Rattle.integer.proofs.Order.{left}
 use Rattle.integer.proofs.Machine.{natural-cast}
-use Rattle.wide_sum.specs.Code.{Added}
-use Rattle.wide_sum.proofs.Lowered.{raised-is}
+use Rattle.wide_sum.proofs.Lowered.{read-added, raised-is}
 use Rattle.wide_sum.proofs.internal.sum.added.Statement.{statement}
 use Rattle.wide_sum.proofs.internal.sum.added.Tie as tie
 
@@ -18,9 +16,7 @@ lowered-requires : tie.Need-lowered-requires
 lowered-requires c κs = search needs
 
 returns : tie.Need-returns
-returns c =
-    let s = c .before .before in
-    subst (λ (z : ℤ). Added (s .args .w) z (c .lowered .result)) (toZ-ofZ w64 (s .args .p) (s .fits .p)) (c .lowered .ensures)
+returns c = read-added (c .before .before .fits .p) (c .lowered .ensures)
 
 cast-raised : tie.Need-cast-raised
 cast-raised c = natural-cast (c .before .args .p) 1 (c .before .fits .p) (not-below c)

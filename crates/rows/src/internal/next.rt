@@ -1,0 +1,90 @@
+use inputs::internal::read;
+use interval::internal::product::exact_product;
+use interval::internal::product::product_above;
+use interval::internal::sum;
+use wide_sum::WideInterval;
+use wide_sum::internal::sum::added_both;
+use wide_sum::internal::sum::raised_both;
+ghost use mathlib.Core.Path.{_≡_};
+ghost use mathlib.Core.Bool.{true};
+ghost use Prim.Native.Nat.{_+_, _*_, _≤_};
+ghost use lib.ListN.{length};
+ghost use Rattle.inputs.specs.Place.{at};
+ghost use Rattle.inputs.specs.Code.{Sound};
+ghost use Rattle.wide_sum.specs.Code.{NearBoth};
+ghost use Rattle.rows.specs.Code.{Summed, Above};
+
+// acc and the product at positions p and q. The signs of x are looked at first: it has the vats' bounds, the same ones for every row.
+pub fn next_one(acc: WideInterval, m: &[i64], p: usize, x: &[i64], q: usize) -> WideInterval
+    requires { ⌜ NearBoth 1_000 acc ⌝ }
+    requires { ⌜ Sound (now m) × Sound (now x) ⌝ }
+    requires { ⌜ (2 * (p + 1) ≤ length (now m)) × (2 * (q + 1) ≤ length (now x)) ⌝ }
+    ensures { λ r. ⌜ Summed acc (now (m .entry)) p (now (x .entry)) q 1 r ⌝ }
+{
+    let a = read(m, p);
+    let b = read(x, q);
+    let u = exact_product(b, a);
+    added_both(acc, u)
+}
+
+// Whether neither factor is below 0.
+fn are_above(m: &[i64], p: usize, x: &[i64], q: usize) -> bool
+    requires { ⌜ Sound (now m) × Sound (now x) ⌝ }
+    requires { ⌜ (2 * (p + 1) ≤ length (now m)) × (2 * (q + 1) ≤ length (now x)) ⌝ }
+    ensures { λ r. ⌜ (r ≡ true → Above (at (now (m .entry)) p) (at (now (x .entry)) q)) ⌝ }
+{
+    let b = read(x, q);
+    if b.lo < 0 {
+        return false;
+    }
+    let a = read(m, p);
+    0 <= a.lo
+}
+
+// acc and the next two products, of factors that are not below 0, as shares and weights are. Two products together fit 64 bits.
+fn two_above(acc: WideInterval, m: &[i64], p: usize, x: &[i64], q: usize) -> WideInterval
+    requires { ⌜ NearBoth 1_000 acc ⌝ }
+    requires { ⌜ Sound (now m) × Sound (now x) ⌝ }
+    requires { ⌜ (2 * (p + 2) ≤ length (now m)) × (2 * (q + 2) ≤ length (now x)) ⌝ }
+    requires { ⌜ Above (at (now m) p) (at (now x) q) × Above (at (now m) (p + 1)) (at (now x) (q + 1)) ⌝ }
+    ensures { λ r. ⌜ Summed acc (now (m .entry)) p (now (x .entry)) q 2 r ⌝ }
+{
+    let a = read(m, p);
+    let b = read(x, q);
+    let u = product_above(a, b);
+    let c = read(m, p + 1);
+    let d = read(x, q + 1);
+    let v = product_above(c, d);
+    raised_both(acc, sum(u, v))
+}
+
+// acc and the next two products, of any factors.
+fn any_two(acc: WideInterval, m: &[i64], p: usize, x: &[i64], q: usize) -> WideInterval
+    requires { ⌜ NearBoth 1_000 acc ⌝ }
+    requires { ⌜ Sound (now m) × Sound (now x) ⌝ }
+    requires { ⌜ (2 * (p + 2) ≤ length (now m)) × (2 * (q + 2) ≤ length (now x)) ⌝ }
+    ensures { λ r. ⌜ Summed acc (now (m .entry)) p (now (x .entry)) q 2 r ⌝ }
+{
+    let a = read(m, p);
+    let b = read(x, q);
+    let u = exact_product(b, a);
+    let c = read(m, p + 1);
+    let d = read(x, q + 1);
+    let v = exact_product(d, c);
+    added_both(acc, sum(u, v))
+}
+
+// acc and the two products from positions p and q on.
+pub fn next_two(acc: WideInterval, m: &[i64], p: usize, x: &[i64], q: usize) -> WideInterval
+    requires { ⌜ NearBoth 1_000 acc ⌝ }
+    requires { ⌜ Sound (now m) × Sound (now x) ⌝ }
+    requires { ⌜ (2 * (p + 2) ≤ length (now m)) × (2 * (q + 2) ≤ length (now x)) ⌝ }
+    ensures { λ r. ⌜ Summed acc (now (m .entry)) p (now (x .entry)) q 2 r ⌝ }
+{
+    if are_above(m, p, x, q) {
+        if are_above(m, p + 1, x, q + 1) {
+            return two_above(acc, m, p, x, q);
+        }
+    }
+    any_two(acc, m, p, x, q)
+}
