@@ -22,7 +22,7 @@ use Rattle.interval.proofs.Range.{Within, Sound}
 abbrev pub Bounded : ℤ → Type 0
 Bounded p = (negsuc 3999999999999999999 ≤ℤ p) × (p ≤ℤ pos 4000000000000000000)
 
-pub product-bounded : {a b : ℤ} → Within a → Within b → Bounded (a *ℤ b)
+product-bounded : {a b : ℤ} → Within a → Within b → Bounded (a *ℤ b)
 unfolding lowest highest
 product-bounded {a} {b} h k = go a b (h .low) (h .high) (k .low) (k .high)
   where

@@ -1,5 +1,4 @@
 use mathlib.Core.Path.{sym, _∙_}
-use borrow.Author.Needs.{needs}
 use Rattle.integer.proofs.Order.{trans}
 use Rattle.interval.specs.Interval.{exactProduct}
 use Rattle.interval.proofs.Range.{Sound, is-sound, read, product-safe, product-read, negative-taken, negative-left, same-ends, chosen-safe, chosen-read}

@@ -4,7 +4,6 @@ use mir.Syntax.{w64}
 use mir.ValLaws.{toZ-ofZ}
 use Rattle.integer.proofs.Order.{lt-le, taken, left, mono, anti}
 use Rattle.integer.proofs.Extremes.{max-is-left, max-is-right}
-use Rattle.interval.specs.Code.{GreatestWith}
 use Rattle.interval.proofs.internal.product.end_with.Statement.{statement}
 use Rattle.interval.proofs.internal.product.end_with.Tie as tie
 

@@ -1,7 +1,6 @@
 use mathlib.Core.Path.{sym, subst}
 use lib.Dec.{T}
 use borrow.Author.Needs.{needs}
-use Rattle.interval.specs.declared.Interval.{Interval}
 use Rattle.interval.proofs.Range.{is-sound, negative-left, above-taken}
 use Rattle.rows.proofs.internal.next.are_above.Statement.{statement}
 use Rattle.rows.proofs.internal.next.are_above.Tie as tie
