@@ -35,23 +35,22 @@ module _ (m : List ℤ) (p : ℕ) (x : List ℤ) (q : ℕ) (acc : Interval) wher
       rw (e, f) (sum-assoc _ _ _)
 
 -- ---- in the row
-module _ (m : List ℤ) (p : ℕ) (x : List ℤ) (q d j : ℕ) (acc : Interval) where
-  pub exactly-end : d ≤ j → exactly m p x q (d - j) j acc ≡ acc
+module _ (m : List ℤ) (p : ℕ) (x : List ℤ) (q d : ℕ) where
+  pub exactly-end : (j : ℕ) (acc : Interval) → d ≤ j → exactly m p x q (d - j) j acc ≡ acc
   unfolding exactly
-  exactly-end h = let e : d - j ≡ 0 = omega arith in rw e
+  exactly-end j acc h = let e : d - j ≡ 0 = omega arith in rw e
 
-  exactly-go : j < d → exactly m p x q (d - j) j acc ≡ exactly m p x q (d - (j + 1)) (j + 1) (exactSum acc (exactProduct (at m (p + j)) (at x (q + j))))
+  exactly-go : (j : ℕ) (acc : Interval) → j < d → exactly m p x q (d - j) j acc ≡ exactly m p x q (d - (j + 1)) (j + 1) (exactSum acc (exactProduct (at m (p + j)) (at x (q + j))))
   unfolding exactly
-  exactly-go h = let e : d - j ≡ suc (d - (j + 1)) = omega arith in rw e
+  exactly-go j acc h = let e : d - j ≡ suc (d - (j + 1)) = omega arith in rw e
 
-  pub exactly-one : j < d → exactly m p x q (d - j) j acc ≡ exactly m p x q (d - (j + 1)) (j + 1) (exactly m (p + j) x (q + j) 1 0 acc)
-  exactly-one h = exactly-go h ∙ ap (exactly m p x q (d - (j + 1)) (j + 1)) (sym (one-product m (p + j) x (q + j) acc))
+  pub exactly-one : (j : ℕ) (acc : Interval) → j < d → exactly m p x q (d - j) j acc ≡ exactly m p x q (d - (j + 1)) (j + 1) (exactly m (p + j) x (q + j) 1 0 acc)
+  exactly-one j acc h = exactly-go j acc h ∙ ap (exactly m p x q (d - (j + 1)) (j + 1)) (sym (one-product m (p + j) x (q + j) acc))
 
-module _ (m : List ℤ) (p : ℕ) (x : List ℤ) (q d j : ℕ) (acc : Interval) where
-  pub exactly-two : j + 1 < d → exactly m p x q (d - j) j acc ≡ exactly m p x q (d - (j + 2)) (j + 2) (exactly m (p + j) x (q + j) 2 0 acc)
-  exactly-two h =
+  pub exactly-two : (j : ℕ) (acc : Interval) → j + 1 < d → exactly m p x q (d - j) j acc ≡ exactly m p x q (d - (j + 2)) (j + 2) (exactly m (p + j) x (q + j) 2 0 acc)
+  exactly-two j acc h =
       let e : j + 1 + 1 ≡ j + 2 = omega arith in
       let f : p + (j + 1) ≡ p + j + 1 = omega arith in
       let g : q + (j + 1) ≡ q + j + 1 = omega arith in
-      exactly-go m p x q d j acc (omega arith) ∙ exactly-go m p x q d (j + 1) _ h
+      exactly-go j acc (omega arith) ∙ exactly-go (j + 1) _ h
       ∙ rw (e, f, g, two-products m (p + j) x (q + j) acc) (ap (exactly m p x q (d - (j + 2)) (j + 2)) (sum-assoc _ _ _))

@@ -28,7 +28,7 @@ pub turned : {a b u v w : Interval} → a ≡ v → b ≡ w → u ≡ exactProdu
 turned {v = v} {w = w} e f g = g ∙ ap₂ exactProduct f e ∙ exchanged v w
 
 module _ (m : List ℤ) (p : ℕ) (x : List ℤ) (q : ℕ) where
-  abbrev pub pair : Interval
+  abbrev pair : Interval
   pair = exactSum (exactProduct (at m p) (at x q)) (exactProduct (at m (p + 1)) (at x (q + 1)))
 
   pub one-summed : {acc r : WideInterval} {u : Interval} → u ≡ exactProduct (at m p) (at x q) → AddedBoth acc u r → Summed acc m p x q 1 r

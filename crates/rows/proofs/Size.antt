@@ -4,19 +4,20 @@ use mathlib.Core.Bool.{true}
 use Prim.Native.Nat.{ℕ, _+_, _*_, _≤_}
 use native.Mathlib.Omega.{arith}
 use lib.Dec.{le→leb}
-use lib.IntN.{ℤ, pos, negsuc, negℤ, _+ℤ_, _-ℤ_, _*ℤ_}
+use lib.IntN.{ℤ, pos, negℤ, _+ℤ_, _-ℤ_, _*ℤ_}
 use lib.Signed.{_≤ℤ_, leZ-yes}
 use mir.Syntax.{w64}
 use mir.Val.{SFits}
 use Rattle.integer.proofs.Linear.{linear, over}
-use Rattle.integer.proofs.Order.{also, prod, trans, cancel}
+use Rattle.integer.proofs.Order.{trans, cancel}
 use Rattle.integer.proofs.Rounding.{floor-low, floor-iff, ceil-high, ceil-iff}
 use Rattle.integer.proofs.Machine.{fits64}
 use Rattle.interval.specs.declared.Interval.{Interval}
 use Rattle.interval.specs.Interval.{scale, lowest, highest, acceptable, exactSum, exactDifference, exactProduct, rounded, productAt, product, zero}
 use Rattle.interval.specs.Code.{Representable}
-use Rattle.interval.proofs.Range.{Within, is-sound, scale-above}
-use Rattle.interval.proofs.Corners.{least-ind, greatest-ind, least-first, greatest-first}
+use Rattle.interval.proofs.Range.{is-sound, scale-above}
+use Rattle.interval.proofs.Corners.{least-first, greatest-first}
+use Rattle.interval.proofs.Scaled.{least-bounded, greatest-bounded}
 
 -- ends in sequence, neither further from 0 than k
 pub record Small (k : ℕ) (v : Interval) : Type 0 where
@@ -74,30 +75,12 @@ small-fits {k} {v} b h =
     fit = over 2 _ (λ ρ. simp (fits64, linear, ρ) (omega arith))
 
 -- ---- a product, unrounded and rounded
-above : {a b : ℤ} → Within a → Within b → negℤ (pos 4000000000000000000) ≤ℤ (a *ℤ b)
-unfolding lowest highest
-above {a} {b} h k = go a b (h .low) (h .high) (k .low) (k .high)
-  where
-    go : (a b : ℤ) → negsuc 1999999999 ≤ℤ a → a ≤ℤ pos 2000000000 → negsuc 1999999999 ≤ℤ b → b ≤ℤ pos 2000000000 → negℤ (pos 4000000000000000000) ≤ℤ (a *ℤ b)
-    go = over 2 _ (λ ρ h₁ h₂ k₁ k₂. also (prod h₁ k₁) (also (prod h₁ k₂) (also (prod h₂ k₁) (also (prod h₂ k₂) (simp (linear, ρ) (omega arith))))))
-
-below : {a b : ℤ} → Within a → Within b → (a *ℤ b) ≤ℤ pos 4000000000000000000
-unfolding lowest highest
-below {a} {b} h k = go a b (h .low) (h .high) (k .low) (k .high)
-  where
-    go : (a b : ℤ) → negsuc 1999999999 ≤ℤ a → a ≤ℤ pos 2000000000 → negsuc 1999999999 ≤ℤ b → b ≤ℤ pos 2000000000 → (a *ℤ b) ≤ℤ pos 4000000000000000000
-    go = over 2 _ (λ ρ h₁ h₂ k₁ k₂. also (prod h₁ k₁) (also (prod h₁ k₂) (also (prod h₂ k₁) (also (prod h₂ k₂) (simp (linear, ρ) (omega arith))))))
-
 pub exact-product-small : (x y : Interval) → acceptable x ≡ true → acceptable y ≡ true → Small 4000000000000000000 (exactProduct x y)
 unfolding exactProduct
 exact-product-small x y e f =
     let h = is-sound x e in
     let k = is-sound y f in
-    record {
-      low = least-ind _ _ _ _ (λ z. negℤ (pos 4000000000000000000) ≤ℤ z) (above (h .lo-in) (k .lo-in)) (above (h .lo-in) (k .hi-in)) (above (h .hi-in) (k .lo-in)) (above (h .hi-in) (k .hi-in));
-      order = trans (least-first _ _ _ _) (greatest-first _ _ _ _);
-      high = greatest-ind _ _ _ _ (λ z. z ≤ℤ pos 4000000000000000000) (below (h .lo-in) (k .lo-in)) (below (h .lo-in) (k .hi-in)) (below (h .hi-in) (k .lo-in)) (below (h .hi-in) (k .hi-in));
-    }
+    record { low = least-bounded h k .0; order = trans (least-first _ _ _ _) (greatest-first _ _ _ _); high = greatest-bounded h k .1 }
 
 -- ends in sequence stay so
 pub rounded-order : {v : Interval} → v .lo ≤ℤ v .hi → rounded scale v .lo ≤ℤ rounded scale v .hi

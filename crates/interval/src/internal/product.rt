@@ -59,7 +59,7 @@ pub fn product_above(x: Interval, y: Interval) -> Interval
 }
 
 // Of the ends a and b the one whose product with z is the greatest: chosen before it is multiplied, so that no jump is to be foreseen.
-fn end_with(a: i64, b: i64, z: i64) -> i64
+fn greatest_end(a: i64, b: i64, z: i64) -> i64
     requires { ⌜ a ≤ℤ b ⌝ }
     ensures { λ r. ⌜ GreatestWith a b z r ⌝ }
 {
@@ -83,7 +83,7 @@ fn above_times(x: Interval, y: Interval) -> Interval
     if 0 <= c {
         return product_above(x, y);
     }
-    let e = end_with(a, b, d);
+    let e = greatest_end(a, b, d);
     let lo = b * c;
     let hi = e * d;
     Interval { lo, hi }
@@ -106,7 +106,7 @@ fn below_times(x: Interval, y: Interval) -> Interval
             hi: a * c,
         };
     }
-    let e = end_with(a, b, c);
+    let e = greatest_end(a, b, c);
     let lo = a * d;
     let hi = e * c;
     Interval { lo, hi }

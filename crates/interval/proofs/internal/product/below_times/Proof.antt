@@ -34,11 +34,11 @@ returns c =
     (product-read (x .lo-in) (y .lo-in) ∙ sym (below-greatest-below x y h (trans (y .order) k)))
 
 -- it is not
-abbrev start : tie.After-end-with → tie.Start
+abbrev start : tie.After-greatest-end → tie.Start
 start c = c .before .before .before .before .before .before
 
-end-with-requires : tie.Need-end-with-requires
-end-with-requires c κs = let x = x-sound (c .before .before .before .before .before) in rw (read (x .lo-in), read (x .hi-in)) (x .order)
+greatest-end-requires : tie.Need-greatest-end-requires
+greatest-end-requires c κs = let x = x-sound (c .before .before .before .before .before) in rw (read (x .lo-in), read (x .hi-in)) (x .order)
 
 mul-lo : tie.Need-mul-lo
 mul-lo c = product-safe (x-sound (start c) .lo-in) (y-sound (start c) .hi-in)
@@ -46,7 +46,7 @@ mul-lo c = product-safe (x-sound (start c) .lo-in) (y-sound (start c) .hi-in)
 mul-hi : tie.Need-mul-hi
 mul-hi c =
     let x = x-sound (start c) in
-    chosen-safe (x .lo-in) (x .hi-in) (y-sound (start c) .lo-in) (c .end-with .ensures)
+    chosen-safe (x .lo-in) (x .hi-in) (y-sound (start c) .lo-in) (c .greatest-end .ensures)
 
 returns-2 : tie.Need-returns-2
 unfolding exactProduct
@@ -57,8 +57,8 @@ returns-2 c =
     let h = s .pre .1 .1 in
     same-ends _ _
     (product-read (x .lo-in) (y .hi-in) ∙ sym (below-least-above x y h (negative-left (y .hi-in) (c .before .if1 .left))))
-    (chosen-read (x .lo-in) (x .hi-in) (y .lo-in) (c .end-with .ensures) ∙ sym (below-greatest x y h))
+    (chosen-read (x .lo-in) (x .hi-in) (y .lo-in) (c .greatest-end .ensures) ∙ sym (below-greatest x y h))
 
 pub below-times-spec : {M : Type 1} → statement M
 below-times-spec =
-    tie.close (tie.spec mul-t11 mul-t12 returns end-with-requires mul-lo mul-hi returns-2)
+    tie.close (tie.spec mul-t11 mul-t12 returns greatest-end-requires mul-lo mul-hi returns-2)

@@ -4,8 +4,8 @@ use mir.Syntax.{w64}
 use mir.ValLaws.{toZ-ofZ}
 use Rattle.integer.proofs.Order.{lt-le, taken, left, mono, anti}
 use Rattle.integer.proofs.Extremes.{max-is-left, max-is-right}
-use Rattle.interval.proofs.internal.product.end_with.Statement.{statement}
-use Rattle.interval.proofs.internal.product.end_with.Tie as tie
+use Rattle.interval.proofs.internal.product.greatest_end.Statement.{statement}
+use Rattle.interval.proofs.internal.product.greatest_end.Tie as tie
 
 returns : tie.Need-returns
 returns c =
@@ -19,5 +19,5 @@ returns-2 c =
     rw (toZ-ofZ w64 (s .args .b) (s .fits .b))
     (record { one = inr refl; is = sym (max-is-right (mono _ _ (s .args .z) (left _ _ (rw (toZ-ofZ w64 (s .args .z) (s .fits .z)) at (c .if1 .left))) (s .pre))) })
 
-pub end-with-spec : {M : Type 1} → statement M
-end-with-spec = tie.close (tie.spec returns returns-2)
+pub greatest-end-spec : {M : Type 1} → statement M
+greatest-end-spec = tie.close (tie.spec returns returns-2)
