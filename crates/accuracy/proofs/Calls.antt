@@ -18,12 +18,12 @@ use Rattle.rows.specs.Sum.{once}
 use Rattle.rows.proofs.Encloses.{once-encloses}
 use Rattle.sweep.specs.Pass.{differ}
 use Rattle.sweep.specs.Call.{Log, stopped, settled, spent, swept, after, sweeps, ending, last, concluded, tests}
-use Rattle.sweep.specs.Calls.{Call, sweepCall, runBy, run, callBy, call, Change, sweepChanges, sweepsOf, changesBy, changes, anyEmptyBy, anyEmpty}
+use Rattle.sweep.specs.Calls.{Call, sweepCall, symmetricCall, runBy, run, callBy, call, Change, sweepChanges, sweepsOf, changesBy, changes, anyEmptyBy, anyEmpty}
 use Rattle.sweep.proofs.Tests as sweep
 use Rattle.sweep.proofs.Kept.{refused-not-empty}
 use Rattle.accuracy.specs.Claim.{Every}
 use Rattle.accuracy.proofs.Follows.{Ordered, Follows, follows-refl, follows-trans, NoSolution, earlier, OnPass, Faithful}
-use Rattle.accuracy.proofs.Sweep.{sweep-faithful}
+use Rattle.accuracy.proofs.Sweep.{sweep-faithful, symmetric-faithful}
 
 every-append : (P : Change → Type 0) (l r : List Change) → Every P l → Every P r → Every P (l ++ r)
 every-append P [] r h k = k
@@ -84,6 +84,7 @@ module _ (s : System) where
   pub on-run : (c : Call) (X : List ℤ) → OnRun X (run s c X)
   unfolding runBy
   on-run (sweepCall k) X = on-call (sweep-faithful once once-encloses s) k X
+  on-run (symmetricCall k) X = on-call (symmetric-faithful once once-encloses s) k X
 
   -- ---- the boxes of a list that began with X₀: each follows from X₀ and from the one before it
   pub record Fine (X₀ : List ℤ) (c : Change) : Type 0 where

@@ -4,22 +4,14 @@ use mathlib.Core.List.{List}
 use Prim.Native.Nat.{ℕ, _*_, _<_}
 use lib.IntN.{ℤ}
 use lib.ListN.{length}
-use lib.Signed.{_≤ℤ_, ≤ℤ-refl}
-use Rattle.integer.proofs.Order.{trans}
-use Rattle.interval.specs.declared.Interval.{Interval}
+use lib.Signed.{_≤ℤ_}
 use Rattle.fraction.specs.Fraction.{Fraction}
-use Rattle.fraction.specs.Meaning.{Contains}
+use Rattle.fraction.proofs.Contains.{contains-refl, contains-trans}
 use Rattle.inputs.specs.Place.{at}
 use Rattle.inputs.specs.System.{System}
 use Rattle.outcome.specs.Run.{Run, refused, done}
 use Rattle.accuracy.specs.Solution.{Solution, InBox}
 use Rattle.accuracy.specs.Claim.{Narrowed}
-
-pub contains-refl : (v : Interval) → Contains v v
-contains-refl v = record { low = ≤ℤ-refl (v .lo); high = ≤ℤ-refl (v .hi) }
-
-contains-trans : {u v w : Interval} → Contains u v → Contains v w → Contains u w
-contains-trans h k = record { low = trans (h .low) (k .low); high = trans (k .high) (h .high) }
 
 -- no interval of the box is empty
 pub record Ordered (n : ℕ) (X : List ℤ) : Type 0 where

@@ -1,7 +1,7 @@
--- A sweep keeps every solution, for any way to sum a row that encloses the exact sum.
+-- A pass keeps every solution, for any way to sum a row that encloses the exact sum.
 use mathlib.Core.Path.{_≡_, refl, ap, _∙_}
 use mathlib.Core.Bool.{Bool, true, false, cond}
-use mathlib.Core.List.{List}
+use mathlib.Core.List.{List, [], _∷_}
 use Prim.Native.Nat.{ℕ, zero, suc, _+_, _*_, _<_}
 use native.Mathlib.Omega.{arith}
 use native.Mathlib.Nat.{zero-add}
@@ -11,25 +11,26 @@ use lib.ListN.{length}
 use lib.Signed.{_≤ℤ_, clashℤ}
 use Rattle.integer.proofs.Linear.{reading, ring, over}
 use Rattle.integer.proofs.Order.{taken}
-use Rattle.integer.proofs.Extremes.{le-max-right, min-le-right}
 use Rattle.interval.specs.declared.Interval.{Interval}
-use Rattle.interval.specs.Interval.{intersection, isEmpty}
+use Rattle.interval.specs.Interval.{isEmpty}
 use Rattle.fraction.specs.Fraction.{Fraction, Inside, Same, millionths, sum, productAt}
 use Rattle.fraction.specs.Meaning.{Contains}
 use Rattle.fraction.proofs.Inside.{same-sym, inside-same, in-order, intersection-inside}
+use Rattle.fraction.proofs.Contains.{contains-refl}
 use Rattle.fraction.proofs.Sum.{sum-inside}
 use Rattle.inputs.specs.Place.{at, put}
 use Rattle.inputs.specs.System.{System}
 use Rattle.inputs.proofs.Place.{length-put, at-put-same, at-put-other}
 use Rattle.rows.specs.Sum.{RowSum}
 use Rattle.rows.specs.Exact.{nought, exactRow, Encloses}
-use Rattle.sweep.proofs.Pass.{not-empty}
-use Rattle.sweep.specs.Pass.{component, sweepFrom, sweep}
+use Rattle.sweep.proofs.Turns.{Below, there-below, there-and-back-below}
+use Rattle.sweep.proofs.Pass.{not-empty, component-narrows}
+use Rattle.sweep.specs.Pass.{component, along, there, thereAndBack, sweep, symmetric}
 use Rattle.outcome.specs.declared.Outcome.the-variants as outcome
 use Rattle.outcome.specs.Run.{Run, refused}
 use Rattle.accuracy.specs.Solution.{Solution, InBox}
 use Rattle.accuracy.proofs.Common.{same-trans}
-use Rattle.accuracy.proofs.Follows.{contains-refl, Follows, follows-refl, follows-trans, earlier, OnPass, Faithful}
+use Rattle.accuracy.proofs.Follows.{Follows, follows-refl, follows-trans, earlier, OnPass, Faithful}
 
 -- ---- a solution's row begins with its constant, a row sum with nought: what begins with b + a is b and what begins with a
 sum-on : (b a p : Fraction) {c : Fraction} → Same c (sum b a) → Same (sum c p) (sum b (sum a p))
@@ -61,11 +62,7 @@ and-nought b = record { holds = go (b .num) (b .den) }
     go : (p q : ℤ) → p *ℤ (q *ℤ pos 1) ≡ (p *ℤ pos 1 +ℤ pos 0 *ℤ q) *ℤ q
     go = over 2 _ (λ ρ. simp (reading, ρ) (ring _ _ _ tt))
 
--- ---- an intersection is no wider than what it is taken of, and what holds a fraction is not empty
-intersection-narrows : (x y : Interval) → Contains y (intersection x y)
-unfolding intersection
-intersection-narrows x y = record { low = le-max-right (x .lo) (y .lo); high = min-le-right (x .hi) (y .hi) }
-
+-- ---- what holds a fraction is not empty
 held-not-empty : {A : Type 0} {v : Interval} {a : Fraction} → isEmpty v ≡ true → Inside v a → A
 unfolding isEmpty
 held-not-empty {v = v} e h = clashℤ (taken (v .hi) (v .lo) e) (in-order h)
@@ -82,15 +79,11 @@ module _ (sum : RowSum) (encloses : Encloses sum) (s : System) where
       (encloses .holds (s .matrix) (i * s .size) X 0 (s .size) (c .coefficient i) x (λ j l. c .coefficient-in i j h l) (λ j l. rw (zero-add j) (k .each j l)))))
       (k .each i h)
 
-  component-narrows : (X : List ℤ) (i : ℕ) → Contains (at X i) (component sum s X i)
-  unfolding component
-  component-narrows X i = intersection-narrows _ (at X i)
-
   put-follows : (X : List ℤ) (i : ℕ) → i < s .size → length X ≡ 2 * s .size → isEmpty (component sum s X i) ≡ false → Follows s X (put X i (component sum s X i))
   put-follows X i h l e =
       record {
         as-long = length-put X i v;
-        narrowed = record { each = λ j k. by-place (λ j w. Contains (at X j) w) (component-narrows X i) j (contains-refl (at X j)) };
+        narrowed = record { each = λ j k. by-place (λ j w. Contains (at X j) w) (component-narrows sum s X i) j (contains-refl (at X j)) };
         ordered = λ o. record { each = λ j k. by-place (λ j w. w .lo ≤ℤ w .hi) (not-empty e) j (o .each j k) };
         keeps = λ x sol k. record { each = λ j m. by-place (λ j w. Inside w (x j)) (component-inside X i h x sol k) j (k .each j m) };
       }
@@ -106,25 +99,30 @@ module _ (sum : RowSum) (encloses : Encloses sum) (s : System) where
           go (yes f) = rw (f, at-put-same X i v (omega arith)) new
           go (no f) = rw (at-put-other X i j v f) old
 
-  -- ---- the components i, i + 1, .., d of them, from a box X that follows the one before the sweep
-  from-follows : (d i : ℕ) {X₀ X : List ℤ} → i + d ≡ s .size → length X ≡ 2 * s .size → Follows s X₀ X → OnPass s X₀ (sweepFrom sum s d i X)
-  unfolding sweepFrom
-  from-follows zero i e l f = f
-  from-follows (suc d) i {X₀} {X} e l f =
-      go (isEmpty v) refl (λ q.
-      let g = put-follows X i (omega arith) l q in
-      from-follows d (i + 1) (omega arith) (g .as-long ∙ l) (follows-trans s f g))
+  -- ---- the components of a list, from a box X that follows the one before the pass
+  along-follows : (is : List ℕ) → Below (s .size) is → {X₀ X : List ℤ} → length X ≡ 2 * s .size → Follows s X₀ X → OnPass s X₀ (along sum s is X)
+  unfolding along
+  along-follows [] b l f = f
+  along-follows (i ∷ is) b {X₀} {X} l f =
+      go (isEmpty v) refl (λ q. let g = put-follows X i (b .0) l q in along-follows is (b .1) (g .as-long ∙ l) (follows-trans s f g))
     where
       v : Interval
       v = component sum s X i
 
       rest : Run (List ℤ)
-      rest = sweepFrom sum s d (i + 1) (put X i v)
+      rest = along sum s is (put X i v)
 
       go : (t : Bool) → isEmpty v ≡ t → (isEmpty v ≡ false → OnPass s X₀ rest) → OnPass s X₀ (cond t (refused (outcome.Empty (i + 1))) rest)
-      go true q g = earlier s f (λ x sol k. held-not-empty q (component-inside X i (omega arith) x sol k))
+      go true q g = earlier s f (λ x sol k. held-not-empty q (component-inside X i (b .0) x sol k))
       go false q g = g q
+
+  along-faithful : (is : List ℕ) → Below (s .size) is → Faithful s (along sum s is)
+  along-faithful is b = record { each = λ X l. along-follows is b l (follows-refl s X) }
 
   pub sweep-faithful : Faithful s (sweep sum s)
   unfolding sweep
-  sweep-faithful = record { each = λ X l. from-follows (s .size) 0 (zero-add (s .size)) l (follows-refl s X) }
+  sweep-faithful = along-faithful (there (s .size)) (there-below (s .size))
+
+  pub symmetric-faithful : Faithful s (symmetric sum s)
+  unfolding symmetric
+  symmetric-faithful = along-faithful (thereAndBack (s .size)) (there-and-back-below (s .size))

@@ -1,4 +1,5 @@
 pub mod Inside
+pub mod Contains
 pub mod Hull
 pub mod Sum
 pub mod Product

@@ -29,7 +29,7 @@ use Rattle.forward.specs.Code.{Working, Pivots}
 use Rattle.forward.proofs.Kept.{forward-pivots}
 use Rattle.elimination.specs.Back.{numerator, back}
 use Rattle.elimination.specs.Call.{noneTaken}
-use Rattle.accuracy.proofs.Follows.{contains-refl}
+use Rattle.fraction.proofs.Contains.{contains-refl}
 use Rattle.inside_former.proofs.Narrow.{wide-order, difference-narrow, quotient-narrow, range-narrow}
 use Rattle.inside_former.proofs.Working.{working-put, pivots-put, forward-working}
 

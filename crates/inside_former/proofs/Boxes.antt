@@ -33,7 +33,7 @@ use Rattle.elimination.specs.Call.{copied, box, noneTaken, solved, runA, runB, 
 use Rattle.elimination.proofs.Accepted.{accepted-A, accepted-B}
 use Rattle.elimination.proofs.Call.{copied-working}
 use Rattle.accuracy.proofs.Copy.{box-at}
-use Rattle.accuracy.proofs.Follows.{contains-refl}
+use Rattle.fraction.proofs.Contains.{contains-refl}
 use Rattle.inside_former.proofs.Narrow.{difference-narrow}
 use Rattle.inside_former.proofs.Working.{working-put, pivots-put, forward-working, formed-working}
 

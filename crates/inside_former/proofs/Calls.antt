@@ -12,16 +12,16 @@ use Rattle.inputs.specs.Code.{Sound}
 use Rattle.inputs.specs.Tests.{both, need, proper, allProper, tested}
 use Rattle.inputs.specs.System.{System}
 use Rattle.rows.specs.Sum.{singly, once}
-use Rattle.sweep.specs.Pass.{sweep}
+use Rattle.sweep.specs.Pass.{sweep, symmetric}
 use Rattle.sweep.specs.Call.{Log, sweeps, concluded, tests}
-use Rattle.sweep.specs.Calls.{Call, sweepCall, runBy, callBy, anyEmptyBy}
+use Rattle.sweep.specs.Calls.{Call, sweepCall, symmetricCall, runBy, callBy, anyEmptyBy}
 use Rattle.sweep.specs.Code.{Ready}
 use Rattle.sweep.proofs.Tests.{ready}
 use Rattle.sweep.proofs.Kept.{refused-not-empty}
 use Rattle.accuracy.specs.Claim.{Narrowed}
 use Rattle.inside_former.specs.Sweeps.{boxOf, boxIn, Inside}
 use Rattle.inside_former.proofs.Inner.{Inner, narrowed-refl, OnPasses, or-false}
-use Rattle.inside_former.proofs.Pass.{sweep-inner}
+use Rattle.inside_former.proofs.Pass.{singly-once, sweep-inner, symmetric-inner}
 use Rattle.inside_former.proofs.After.{sweeps-inner}
 
 -- what is carried from call to call: a lent box may be one that no call accepts, but then it is the same box
@@ -29,7 +29,7 @@ pub data Carried (n : ℕ) (X Y : List ℤ) : Type 0 where
   same : X ≡ Y → Carried n X Y
   inner : Inner n X Y → Carried n X Y
 
-narrowed : {n : ℕ} {X Y : List ℤ} → Carried n X Y → Narrowed n X Y
+pub narrowed : {n : ℕ} {X Y : List ℤ} → Carried n X Y → Narrowed n X Y
 narrowed {n} {X} (same e) = subst (λ Y. Narrowed n X Y) e (narrowed-refl n X)
 narrowed (inner h) = h .inside
 
@@ -79,7 +79,8 @@ module _ (s : System) (p q : List ℤ → Run (List ℤ))
 module _ (s : System) where
   list-call : (c : Call) (X Y : List ℤ) → Carried (s .size) X Y → eqb (callBy once s c Y .number) 7 ≡ false → Called (s .size) (runBy singly s c X) X (runBy once s c Y) Y
   unfolding callBy runBy
-  list-call (sweepCall k) X Y h e = called s (sweep singly s) (sweep once s) (λ Z w. sweep-inner s Z w) k X Y h e
+  list-call (sweepCall k) X Y h e = called s (sweep singly s) (sweep once s) (λ Z w. sweep-inner singly-once s Z w) k X Y h e
+  list-call (symmetricCall k) X Y h e = called s (symmetric singly s) (symmetric once s) (λ Z w. symmetric-inner singly-once s Z w) k X Y h e
 
   list-not-empty : (cs : List Call) (X Y : List ℤ) → Carried (s .size) X Y → anyEmptyBy once s cs Y ≡ false → anyEmptyBy singly s cs X ≡ false
   unfolding anyEmptyBy callBy

@@ -24,7 +24,7 @@ use Rattle.elimination.specs.Call.{copied, box, noneTaken, solved, runA, runB, 
 use Rattle.elimination.proofs.Call.{copied-working}
 use Rattle.accuracy.specs.Claim.{Narrowed}
 use Rattle.accuracy.proofs.Copy.{box-at}
-use Rattle.accuracy.proofs.Follows.{contains-refl}
+use Rattle.fraction.proofs.Contains.{contains-refl}
 use Rattle.inside_former.specs.Elimination.{Beside, forwardA, forwardB, SixNeverNew}
 use Rattle.inside_former.proofs.Working.{formed-working}
 use Rattle.inside_former.proofs.Back.{Inner, OnRuns, run-inner}

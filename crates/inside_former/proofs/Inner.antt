@@ -20,7 +20,7 @@ use Rattle.outcome.specs.Run.{Run, refused, done}
 use Rattle.outcome.specs.Table.{numberAndPlace}
 use Rattle.sweep.specs.Pass.{differs, differ}
 use Rattle.accuracy.specs.Claim.{Narrowed}
-use Rattle.accuracy.proofs.Follows.{contains-refl}
+use Rattle.fraction.proofs.Contains.{contains-refl}
 
 -- Y lies inside X
 pub record Inner (n : ℕ) (X Y : List ℤ) : Type 0 where

@@ -1,5 +1,5 @@
--- A row that is rounded once lies inside one whose products are rounded singly, also if it is taken of narrower intervals; its ends are in
--- sequence.
+-- A row that is rounded once lies inside one whose products are rounded singly, also if it is taken of narrower intervals, and inside one
+-- of wider intervals that is rounded once; its ends are in sequence.
 use mathlib.Core.List.{List}
 use Prim.Native.Nat.{ℕ, zero, suc, _+_, _<_}
 use native.Mathlib.Omega.{arith}
@@ -13,6 +13,7 @@ use Rattle.interval.specs.Interval.{scale, leastProduct, greatestProduct, exact
 use Rattle.interval.proofs.Range.{scale-above}
 use Rattle.interval.proofs.Corners.{least-ind, greatest-ind, least-first, least-second, least-third, least-fourth, greatest-first, greatest-second, greatest-third, greatest-fourth}
 use Rattle.fraction.specs.Meaning.{Contains}
+use Rattle.fraction.proofs.Contains.{contains-refl}
 use Rattle.inputs.specs.Place.{at}
 use Rattle.rows.proofs.Size.{rounded-order}
 use Rattle.rows.specs.Sum.{summed, singly, exactly, once}
@@ -115,6 +116,37 @@ module _ (m : List ℤ) (p : ℕ) (x : List ℤ) (q : ℕ) (m′ x′ : List ℤ
       Contains (singly m p x q d) (once m′ p x′ q d)
   unfolding singly once
   once-inside d h k = scaled-rounded (scaled-row d 0 _ _ (λ i l. h i (omega arith)) (λ i l. k i (omega arith)) scaled-zero)
+
+-- ---- a row of narrower intervals that is rounded once too
+pub sum-contains : {u v w z : Interval} → Contains u w → Contains v z → Contains (exactSum u v) (exactSum w z)
+unfolding exactSum
+sum-contains {u} {v} {w} {z} h k =
+    record { low = go (u .lo) (v .lo) (w .lo) (z .lo) (h .low) (k .low); high = go (w .hi) (z .hi) (u .hi) (v .hi) (h .high) (k .high) }
+  where
+    go : (a b c d : ℤ) → a ≤ℤ c → b ≤ℤ d → (a +ℤ b) ≤ℤ (c +ℤ d)
+    go = over 4 _ (λ ρ. simp linear (omega arith))
+
+product-contains : {x y u v : Interval} → Narrow x u → Narrow y v → Contains (exactProduct x y) (exactProduct u v)
+unfolding exactProduct
+product-contains h k = record { low = least-rises h k; high = greatest-falls h k }
+
+rounded-contains : {v w : Interval} → Contains v w → Contains (rounded scale v) (rounded scale w)
+unfolding rounded
+rounded-contains h =
+    scaled-rounded (record { low = trans (floor-low _ scale scale-above) (h .low); high = trans (h .high) (ceil-high _ scale scale-above) })
+
+module _ (m : List ℤ) (p : ℕ) (x : List ℤ) (q : ℕ) (m′ x′ : List ℤ) where
+  exactly-contains : (d j : ℕ) (v w : Interval) → ((i : ℕ) → i < j + d → Narrow (at m (p + i)) (at m′ (p + i))) → ((i : ℕ) → i < j + d → Narrow (at x (q + i)) (at x′ (q + i))) →
+      Contains v w → Contains (exactly m p x q d j v) (exactly m′ p x′ q d j w)
+  unfolding exactly
+  exactly-contains zero j v w h k e = e
+  exactly-contains (suc d) j v w h k e =
+      exactly-contains d (j + 1) _ _ (λ i l. h i (omega arith)) (λ i l. k i (omega arith)) (sum-contains e (product-contains (h j (omega arith)) (k j (omega arith))))
+
+  pub once-narrows : (d : ℕ) → ((i : ℕ) → i < d → Narrow (at m (p + i)) (at m′ (p + i))) → ((i : ℕ) → i < d → Narrow (at x (q + i)) (at x′ (q + i))) →
+      Contains (once m p x q d) (once m′ p x′ q d)
+  unfolding once
+  once-narrows d h k = rounded-contains (exactly-contains d 0 _ _ (λ i l. h i (omega arith)) (λ i l. k i (omega arith)) (contains-refl nought))
 
 -- ---- either row sum has its ends in sequence
 product-order : (x y : Interval) → exactProduct x y .lo ≤ℤ exactProduct x y .hi

@@ -16,12 +16,15 @@ use Rattle.outcome.specs.Run.{Run, refused, done, returned, ended}
 use Rattle.inputs.specs.declared.Test.{Test}
 use Rattle.inputs.specs.declared.Test.the-variants.{Pass, Fail}
 use Rattle.inputs.specs.Tests.{tested}
+use Rattle.inputs.specs.System.{System}
 use Rattle.sweep.specs.declared.Swept.{Swept}
-use Rattle.sweep.specs.declared.internal.pass.OneSweep.{OneSweep}
-use Rattle.sweep.specs.declared.internal.pass.OneSweep.the-variants.{Empty, Whole}
+use Rattle.sweep.specs.declared.internal.pass.OnePass.{OnePass}
+use Rattle.sweep.specs.declared.internal.pass.OnePass.the-variants.{Empty, Whole}
 use Rattle.sweep.specs.Pass.{differ}
 use Rattle.sweep.specs.Call.{Log, stopped, settled, spent, swept, sweeps, count, ending, last, concluded}
-use Rattle.sweep.specs.Code.{runOf, Flagged, Passed, Logged, Ran}
+use Rattle.sweep.specs.Calls.{sweepCall, symmetricCall, runOver, runBy, callBy, call}
+use Rattle.sweep.specs.Code.{runOf, Flagged, Passed, Logged, Ran, callOver}
+use Rattle.sweep.proofs.Turns.{pass-sweep, pass-symmetric}
 
 -- ---- what a turn does; the sweeps left are allowed − k
 module _ (n : ℕ) (p : List ℤ → Run (List ℤ)) (allowed k : ℕ) (x : List ℤ) where
@@ -86,7 +89,7 @@ module _ {l₀ : Log} {x₀ : List ℤ} {k : ℕ} {l : Log} {x : List ℤ} (s : 
   logged-spent e = logged-end (ap ending e) (ap count e) (λ u lent. sym (ap (λ a. last a lent x) e)) (λ u lent. absurd (omega (arith, u)))
 
 -- ---- what one pass was
-module _ {run : Run (List ℤ)} {n : ℕ} {x : List ℤ} {r : OneSweep} {y : List ℤ} (h : Passed run n x r y) where
+module _ {run : Run (List ℤ)} {n : ℕ} {x : List ℤ} {r : OnePass} {y : List ℤ} (h : Passed run n x r y) where
   pub was-empty : {i : ℕ} → r ≡ Empty i → run ≡ refused (outcome.Empty i)
   was-empty e = sym (h .is) ∙ ap (λ a. runOf a y) e
 
@@ -123,3 +126,13 @@ module _ (t : Test) (l : Log) (x : List ℤ) where
   pub call-fails : {o : Outcome} → t ≡ Fail o → returned o 0 x ≡ ended (concluded x) x (tested t (done l))
   unfolding tested ended
   call-fails e = rw e
+
+-- ---- the two calls, by the halves of their passes
+module _ (s : System) (k : ℕ) (x : List ℤ) where
+  pub sweep-called : callOver 1 s k x ≡ call s (sweepCall k) x
+  unfolding callOver callBy runBy
+  sweep-called = ap (λ p. ended (concluded x) x (runOver p s k x)) (pass-sweep s)
+
+  pub symmetric-called : callOver 2 s k x ≡ call s (symmetricCall k) x
+  unfolding callOver callBy runBy
+  symmetric-called = ap (λ p. ended (concluded x) x (runOver p s k x)) (pass-symmetric s)

@@ -8,16 +8,23 @@ use Rattle.outcome.specs.Run.{Run, refused, done, Returned, ended}
 use Rattle.inputs.specs.Tests.{tested}
 use Rattle.inputs.specs.System.{System}
 use Rattle.rows.specs.Sum.{RowSum, once}
-use Rattle.sweep.specs.Pass.{sweep}
+use Rattle.sweep.specs.Pass.{sweep, symmetric}
 use Rattle.sweep.specs.Call.{Log, stopped, settled, spent, swept, sweeps, tests, concluded}
 
--- a call of the list, with its number of sweeps allowed
+-- a call of the list, with its number of sweeps allowed; 'the accuracy rule's list may hold these calls too' (document 02, A5): those
+-- that sweep there and back, of which a pass is 'counted as one sweep'
 pub data Call : Type 0 where
   sweepCall : (allowed : ℕ) → Call
+  symmetricCall : (allowed : ℕ) → Call
 
--- its tests refuse it, or it sweeps, with the row sum that is given
+-- whatever a pass is: its tests refuse the call, or it passes over the box. 'Start box, outcomes and limit are the ordinary call's'
+abbrev pub runOver : (pass : List ℤ → Run (List ℤ)) → System → (allowed : ℕ) → List ℤ → Run Log
+runOver pass s k X = tested (tests s k X) (done (sweeps (s .size) pass k X))
+
+-- with the row sum that is given
 unfoldable pub runBy : RowSum → System → Call → List ℤ → Run Log
-runBy sum s (sweepCall k) X = tested (tests s k X) (done (sweeps (s .size) (sweep sum s) k X))
+runBy sum s (sweepCall k) X = runOver (sweep sum s) s k X
+runBy sum s (symmetricCall k) X = runOver (symmetric sum s) s k X
 
 -- what it returns, and what it leaves in the lent box
 unfoldable pub callBy : RowSum → System → Call → List ℤ → Returned (List ℤ)

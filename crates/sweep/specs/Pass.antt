@@ -1,6 +1,6 @@
--- Document 01, Sweeps; document 003, rule b)*: one sweep.
+-- Document 01, Sweeps; document 003, rule b)*: one sweep. Document 02, A5; document 001: one pass there and back.
 use mathlib.Core.Bool.{Bool, false, cond, _||_}
-use mathlib.Core.List.{List}
+use mathlib.Core.List.{List, [], _∷_, _++_}
 use Prim.Native.Nat.{ℕ, zero, suc, _+_, _*_}
 use lib.IntN.{ℤ}
 use lib.Signed.{ltZ}
@@ -16,21 +16,41 @@ use Rattle.rows.specs.Sum.{RowSum}
 unfoldable pub component : RowSum → System → List ℤ → (i : ℕ) → Interval
 component sum s X i = intersection (exactSum (at (s .right) i) (sum (s .matrix) (i * s .size) X 0 (s .size))) (at X i)
 
--- 'For i from 1 to n', 'with new, already intersected X(j) for j < i and old ones from i on': the components i, i + 1, .., d of them. An
--- empty intersection is 7 with its component
-unfoldable pub sweepFrom : RowSum → System → (d i : ℕ) → List ℤ → Run (List ℤ)
-sweepFrom sum s zero i X = done X
-sweepFrom sum s (suc d) i X =
-    cond (isEmpty (component sum s X i)) (refused (outcome.Empty (i + 1))) (sweepFrom sum s d (i + 1) (put X i (component sum s X i)))
+-- the components of a list, one after the other: each 'with new, already intersected X(j)' of those before it, and old ones of the others,
+-- its own too. An empty intersection is 7 with its component
+unfoldable pub along : RowSum → System → List ℕ → List ℤ → Run (List ℤ)
+along sum s [] X = done X
+along sum s (i ∷ is) X =
+    cond (isEmpty (component sum s X i)) (refused (outcome.Empty (i + 1))) (along sum s is (put X i (component sum s X i)))
+
+-- the components i, i + 1, .., d of them; and i − 1, i − 2, .., 0
+unfoldable pub up : (d i : ℕ) → List ℕ
+up zero i = []
+up (suc d) i = i ∷ up d (i + 1)
+
+unfoldable pub down : (i : ℕ) → List ℕ
+down zero = []
+down (suc i) = i ∷ down i
+
+-- 'For i from 1 to n'
+abbrev pub there : (n : ℕ) → List ℕ
+there n = up n 0
+
+-- 'a sweep from vat 1 to n, then one from n to 1': 'both together are one pass'
+abbrev pub thereAndBack : (n : ℕ) → List ℕ
+thereAndBack n = up n 0 ++ down n
 
 unfoldable pub sweep : RowSum → System → List ℤ → Run (List ℤ)
-sweep sum s X = sweepFrom sum s (s .size) 0 X
+sweep sum s X = along sum s (there (s .size)) X
+
+unfoldable pub symmetric : RowSum → System → List ℤ → Run (List ℤ)
+symmetric sum s X = along sum s (thereAndBack (s .size)) X
 
 -- the two have not the same ends
 unfoldable pub differs : Interval → Interval → Bool
 differs v w = (ltZ (v .lo) (w .lo) || ltZ (w .lo) (v .lo)) || (ltZ (v .hi) (w .hi) || ltZ (w .hi) (v .hi))
 
--- a sweep changed the box if the box after it differs from the one before, in an end of one of the components j, j + 1, .., d of them
+-- a pass changed the box if the box after it differs from the one before, in an end of one of the components j, j + 1, .., d of them
 unfoldable pub differ : (X Y : List ℤ) → (d j : ℕ) → Bool
 differ X Y zero j = false
 differ X Y (suc d) j = differs (at X j) (at Y j) || differ X Y d (j + 1)

@@ -6,6 +6,7 @@
 //     A               elimination from A and f
 //     B               elimination from B and b
 //     S allowed       sweeps
+//     Y allowed       sweeps there and back
 //     X               the start box from B and b
 //   C n f s           the narrower of two boxes: n, their lengths, and so many numbers; printed are the length and the numbers of the one handed back
 //   T length          a text: a line end, and so many bytes; then its cases:

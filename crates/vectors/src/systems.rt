@@ -10,17 +10,25 @@ use elimination::eliminate_balance;
 use start_box::start_box;
 use sweep::Swept;
 use sweep::sweep;
+use sweep::symmetric_sweep;
 
 fn is_call(letter: u8) -> bool {
     match letter {
-        b'A' | b'B' | b'S' | b'X' => true,
+        b'A' | b'B' | b'S' | b'X' | b'Y' => true,
+        _ => false,
+    }
+}
+
+fn is_sweep(letter: u8) -> bool {
+    match letter {
+        b'S' | b'Y' => true,
         _ => false,
     }
 }
 
 // The sweeps allowed, which only a sweep call has.
 fn allowance(file: &[u8], h: Head) -> Natural {
-    if h.letter == b'S' {
+    if is_sweep(h.letter) {
         return read_natural(file, h.at);
     }
     Natural { value: 0, at: h.at }
@@ -47,6 +55,9 @@ fn answer(
         let outcome = start_box(n, matrix, right, bounds);
         return Swept { outcome, count: 0 };
     }
+    if letter == b'Y' {
+        return symmetric_sweep(n, matrix, right, bounds, allowed);
+    }
     sweep(n, matrix, right, bounds, allowed)
 }
 
@@ -64,7 +75,7 @@ fn call(
     let o = r.outcome;
     lines::begin(h);
     lines::outcome(o);
-    if h.letter == b'S' {
+    if is_sweep(h.letter) {
         lines::natural(r.count as u64);
     }
     lines::numbers(bounds);

@@ -1,45 +1,18 @@
-use mathlib.Core.Path.{sym, _∙_}
 use borrow.Author.Needs.{needs}
-use Rattle.sweep.specs.Calls.{runBy, callBy}
-use Rattle.sweep.proofs.Log.{call-runs, call-fails}
+use mathlib.Core.Path.{_∙_}
+use native.Mathlib.Omega.{arith}
+use Rattle.sweep.proofs.Log.{sweep-called}
 use Rattle.sweep.proofs.sweep.Statement.{statement}
 use Rattle.sweep.proofs.sweep.Tie as tie
 
-tested-requires : tie.Need-tested-requires
-tested-requires c κs = search needs
-
-enum-told : tie.Need-enum-told
-enum-told c = search needs
-
-run-requires : tie.Need-run-requires
-run-requires c κs = sym (c .before .before .before .tested .ensures) ∙ c .before .enum-told .given .1
-
-enum-known-o : tie.Need-enum-known-o
-enum-known-o c = search needs
+swept-requires : tie.Need-swept-requires
+swept-requires c κs = omega arith
 
 same-length : tie.Need-same-length
 same-length c = search needs
 
 returns : tie.Need-returns
-unfolding callBy runBy
-returns c = call-runs _ _ _ (sym (c .before .before .before .before .before .tested .ensures) ∙ c .before .before .before .enum-told .given .1) (c .before .run .ensures)
-
-same-length-2 : tie.Need-same-length-2
-same-length-2 c = search needs
-
-returns-2 : tie.Need-returns-2
-unfolding callBy runBy
-returns-2 c = call-fails _ _ _ (sym (c .before .before .before .tested .ensures) ∙ c .before .o .given .1)
+returns c = c .before .swept .ensures ∙ sweep-called _ _ _
 
 pub sweep-spec : {M : Type 1} → statement M
-sweep-spec =
-    tie.close
-    (tie.spec
-    tested-requires
-    enum-told
-    run-requires
-    enum-known-o
-    same-length
-    returns
-    same-length-2
-    returns-2)
+sweep-spec = tie.close (tie.spec swept-requires same-length returns)

@@ -7,14 +7,14 @@ use interval::internal::sum;
 use rows::internal::row_sum;
 ghost use mathlib.Core.Path.{_≡_};
 ghost use mathlib.Core.Bool.{_||_};
-ghost use Prim.Native.Nat.{_<_};
+ghost use Prim.Native.Nat.{_*_, _≤_, _<_};
 ghost use Rattle.inputs.specs.System.{system};
 ghost use Rattle.rows.specs.Sum.{once};
-ghost use Rattle.sweep.specs.Pass.{component, differs, sweep};
-ghost use Rattle.sweep.specs.Code.{Ready, Passed};
+ghost use Rattle.sweep.specs.Pass.{component, differs};
+ghost use Rattle.sweep.specs.Code.{Ready, turn, pass, Passed};
 
 // How a pass over the box ended: at an empty intersection, or whole, and whether it changed an end.
-pub enum OneSweep {
+pub enum OnePass {
     Empty(usize),
     Whole(bool),
 }
@@ -44,22 +44,34 @@ fn moved(earlier: bool, old: Interval, new: Interval) -> bool
     old.hi != new.hi
 }
 
-// One sweep over x.
-pub fn sweep_once(n: usize, m: &[i64], r: &[i64], x: &mut [i64]) -> OneSweep
-    requires { ⌜ Ready n (now m) (now r) (now x) ⌝ }
+// The component of turn k: upward in the first n turns, downward in the next n.
+fn turn(n: usize, k: usize) -> usize
+    requires { ⌜ (n ≤ 32) × (k < 2 * n) ⌝ }
+    ensures { λ i. ⌜ i ≡ turn n k ⌝ }
+{
+    if n <= k {
+        return 2 * n - (k + 1);
+    }
+    k
+}
+
+// One pass over x, of one half or of both.
+pub fn pass_once(n: usize, halves: usize, m: &[i64], r: &[i64], x: &mut [i64]) -> OnePass
+    requires { ⌜ Ready n (now m) (now r) (now x) × (halves ≤ 2) ⌝ }
     ensures { λ p. ⌜
-        Passed (sweep once (system n (now (m .entry)) (now (r .entry))) (now (x .entry))) n (now (x .entry)) p (now (x .exit))
+        Passed (pass halves (system n (now (m .entry)) (now (r .entry))) (now (x .entry))) n (now (x .entry)) p (now (x .exit))
         ⌝ }
 {
     let mut changed = false;
-    for i in 0..n {
+    for k in 0..halves * n {
+        let i = turn(n, k);
         let v = component(n, i, m, r, x);
         if is_empty(v) {
-            return OneSweep::Empty(i + 1);
+            return OnePass::Empty(i + 1);
         }
         let old = read(x, i);
         changed = moved(changed, old, v);
         write(x, i, v);
     }
-    OneSweep::Whole(changed)
+    OnePass::Whole(changed)
 }

@@ -7,14 +7,14 @@ use Rattle.capi.proofs.sweeps.kifwaleb_sweep.Tie as tie
 sweep-requires : tie.Need-sweep-requires
 sweep-requires c κs = search needs
 
-counted-requires : tie.Need-counted-requires
-counted-requires c κs = search needs
+flat-requires : tie.Need-flat-requires
+flat-requires c κs = search needs
 
 same-length : tie.Need-same-length
 same-length c = search needs
 
 returns : tie.Need-returns
-returns c = call-left (c .counted .result) (c .before .before .sweep .result .outcome) _ (c .counted .ensures) ∙ c .before .before .sweep .ensures
+returns c = call-left (c .flat .result) (c .before .before .sweep .result .outcome) _ (c .flat .ensures) ∙ c .before .before .sweep .ensures
 
 pub kifwaleb-sweep-spec : {M : Type 1} → statement M
-kifwaleb-sweep-spec = tie.close (tie.spec sweep-requires counted-requires same-length returns)
+kifwaleb-sweep-spec = tie.close (tie.spec sweep-requires flat-requires same-length returns)

@@ -5,29 +5,27 @@ use native.Mathlib.Nat.{sub-zero}
 use borrow.Author.Needs.{needs}
 use borrow.Author.Tests.{not-true, not-false}
 use Rattle.inputs.specs.System.{system}
-use Rattle.rows.specs.Sum.{once}
-use Rattle.sweep.specs.Pass.{sweep}
 use Rattle.sweep.specs.Call.{sweeps}
-use Rattle.sweep.specs.Code.{Ready}
+use Rattle.sweep.specs.Code.{Ready, pass}
 use Rattle.sweep.proofs.Pass.{ready-after}
 use Rattle.sweep.proofs.Log.{sweeps-spent, sweeps-stopped, sweeps-settled, sweeps-go, Since, since-start, since-more, logged-empty, logged-settled, logged-spent, was-empty, was-whole, was-flagged}
 use Rattle.sweep.proofs.internal.calls.repeat.Statement.{statement}
 use Rattle.sweep.proofs.internal.calls.repeat.Tie as tie
 
 abbrev Inv-loop : tie.InvT-loop
-Inv-loop n m r x₀ allowed count₀ x count =
-    (count ≤ allowed) × Ready n m r x × Since (sweeps n (sweep once (system n m r)) allowed x₀) x₀ count (sweeps n (sweep once (system n m r)) (allowed - count) x) x
+Inv-loop n halves m r x₀ allowed count₀ x count =
+    (count ≤ allowed) × Ready n m r x × Since (sweeps n (pass halves (system n m r)) allowed x₀) x₀ count (sweeps n (pass halves (system n m r)) (allowed - count) x) x
 
 abbrev μ-loop : tie.MeasureT-loop
-μ-loop n m r x₀ allowed count₀ x count = allowed - count
+μ-loop n halves m r x₀ allowed count₀ x count = allowed - count
 
 -- src/internal/calls.rt:34:5
 loop-holds : tie.Need-loop-holds Inv-loop μ-loop
-loop-holds c = (omega arith, c .pre .0, rw sub-zero (since-start _ _))
+loop-holds c = (omega arith, c .pre .0 .0, rw sub-zero (since-start _ _))
 
 -- src/internal/calls.rt:35:15
-sweep-once-requires : tie.Need-sweep-once-requires Inv-loop μ-loop
-sweep-once-requires c κs = c .before .before .loop .inv .1
+pass-once-requires : tie.Need-pass-once-requires Inv-loop μ-loop
+pass-once-requires c κs = let l = c .before .before in (l .loop .inv .1, l .before .pre .0 .1)
 
 -- src/internal/calls.rt:36:31
 enum-known-i : tie.Need-enum-known-i Inv-loop μ-loop
@@ -38,14 +36,14 @@ same-length : tie.Need-same-length Inv-loop μ-loop
 same-length c =
     let u = c .before .before .before .before in
     let l = u .before .before .before in
-    u .sweep-once .kept .1 .1 .1 .0 ∙ l .loop .inv .1 .box ∙ sym (l .before .pre .0 .box)
+    u .pass-once .kept .1 .1 .1 .1 .0 ∙ l .loop .inv .1 .box ∙ sym (l .before .pre .0 .0 .box)
 
 -- src/internal/calls.rt:37:17
 returns : tie.Need-returns Inv-loop μ-loop
 returns c =
     let u = c .before .before .before .before in
     let l = u .before .before .before in
-    logged-empty (l .loop .inv .2) _ (sweeps-stopped _ _ _ _ _ (u .before .before .loop-test .taken) (was-empty (u .sweep-once .ensures) (c .before .i .given .1)))
+    logged-empty (l .loop .inv .2) _ (sweeps-stopped _ _ _ _ _ (u .before .before .loop-test .taken) (was-empty (u .pass-once .ensures) (c .before .i .given .1)))
 
 -- src/internal/calls.rt:42:29
 enum-known-changed : tie.Need-enum-known-changed Inv-loop μ-loop
@@ -60,14 +58,14 @@ same-length-2 : tie.Need-same-length-2 Inv-loop μ-loop
 same-length-2 c =
     let u = c .before .before .before .before .before in
     let l = u .before .before .before in
-    u .sweep-once .kept .1 .1 .1 .0 ∙ l .loop .inv .1 .box ∙ sym (l .before .pre .0 .box)
+    u .pass-once .kept .1 .1 .1 .1 .0 ∙ l .loop .inv .1 .box ∙ sym (l .before .pre .0 .0 .box)
 
 -- src/internal/calls.rt:45:21
 returns-2 : tie.Need-returns-2 Inv-loop μ-loop
 returns-2 c =
     let u = c .before .before .before .before .before in
     let l = u .before .before .before in
-    let p = u .sweep-once .ensures in
+    let p = u .pass-once .ensures in
     let g = c .before .before .changed .given .1 in
     logged-settled
     (since-more (l .loop .inv .2) (sweeps-settled _ _ _ _ _ (u .before .before .loop-test .taken) (was-whole p g) (sym (was-flagged p g) ∙ not-true _ (c .if1 .taken))))
@@ -83,16 +81,16 @@ loop-again c =
     let u = c .before .before .before .before .before in
     let l = u .before .before .before in
     let h = u .before .before .loop-test .taken in
-    let p = u .sweep-once .ensures in
+    let p = u .pass-once .ensures in
     let g = c .before .before .changed .given .1 in (
       omega arith,
-      ready-after (l .loop .inv .1) (u .sweep-once .kept .1 .1 .1 .0) (p .sound),
+      ready-after (l .loop .inv .1) (u .pass-once .kept .1 .1 .1 .1 .0) (p .sound),
       since-more (l .loop .inv .2) (sweeps-go _ _ _ _ _ h (was-whole p g) (sym (was-flagged p g) ∙ not-false _ (c .if1 .left))),
     )
 
 -- src/internal/calls.rt:29:1
 same-length-3 : tie.Need-same-length-3 Inv-loop μ-loop
-same-length-3 c = let l = c .before in l .loop .inv .1 .box ∙ sym (l .before .pre .0 .box)
+same-length-3 c = let l = c .before in l .loop .inv .1 .box ∙ sym (l .before .pre .0 .0 .box)
 
 -- src/internal/calls.rt:29:1
 returns-3 : tie.Need-returns-3 Inv-loop μ-loop
@@ -105,7 +103,7 @@ repeat-spec =
     Inv-loop
     μ-loop
     loop-holds
-    sweep-once-requires
+    pass-once-requires
     enum-known-i
     same-length
     returns

@@ -11,7 +11,7 @@ use Rattle.sweep.proofs.internal.calls.run.Tie as tie
 
 -- 2·n numbers fit the copy
 room : (c : tie.Start) → 2 * c .args .n ≤ 64
-room c = omega (arith, ready (system (c .args .n) (now (c .args .m)) (now (c .args .r))) _ _ (c .pre) .few)
+room c = omega (arith, ready (system (c .args .n) (now (c .args .m)) (now (c .args .r))) _ _ (c .pre .0) .few)
 
 mul-x : tie.Need-mul-x
 mul-x c = omega (arith, room c)
@@ -23,7 +23,7 @@ slice-aggregate-tighten : tie.Need-slice-aggregate-tighten
 slice-aggregate-tighten c = sym (length-take-le _ _ (room (c .before)))
 
 tighten-requires : tie.Need-tighten-requires
-tighten-requires c κs = (c .before .before .pre, length-take-le _ _ (room (c .before .before)))
+tighten-requires c κs = let s = c .before .before in (s .pre .0, (length-take-le _ _ (room s), s .pre .1))
 
 same-length : tie.Need-same-length
 same-length c = search needs

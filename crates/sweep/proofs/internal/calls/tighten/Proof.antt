@@ -6,10 +6,8 @@ use denote.Ref.{now}
 use lib.IntN.{ℤ}
 use lib.ListN.{length}
 use Rattle.inputs.specs.System.{system}
-use Rattle.rows.specs.Sum.{once}
-use Rattle.sweep.specs.Pass.{sweep}
 use Rattle.sweep.specs.Call.{sweeps}
-use Rattle.sweep.specs.Code.{Ready, Logged}
+use Rattle.sweep.specs.Code.{Ready, pass, Logged}
 use Rattle.sweep.proofs.Tests.{ready, allowed-few}
 use Rattle.sweep.proofs.Log.{copied-all, logged-from, ran-lent, ran-written}
 use Rattle.sweep.proofs.internal.calls.tighten.Statement.{statement}
@@ -19,7 +17,7 @@ is-ready : (c : tie.Start) → Ready (c .args .n) (now (c .args .m)) (now (c .ar
 is-ready c = ready (system (c .args .n) (now (c .args .m)) (now (c .args .r))) _ _ (c .pre .0)
 
 as-long : (c : tie.Start) → length (now (c .args .x)) ≡ length (now (c .args .bounds))
-as-long c = c .pre .1 ∙ sym (is-ready c .box)
+as-long c = c .pre .1 .0 ∙ sym (is-ready c .box)
 
 -- the copy is the lent box
 copied : (c : tie.After-copy-out) → c .copy-out .last .0 ≡ now (c .before .before .before .args .bounds)
@@ -31,7 +29,7 @@ copy-out-requires c κs = omega (arith, as-long (c .before .before))
 repeat-requires : tie.Need-repeat-requires
 repeat-requires c κs =
     let s = c .before .before .before .before .before in (
-      subst (λ (y : List ℤ). Ready (s .args .n) (now (s .args .m)) (now (s .args .r)) y) (sym (copied (c .before .before))) (is-ready s),
+      (subst (λ (y : List ℤ). Ready (s .args .n) (now (s .args .m)) (now (s .args .r)) y) (sym (copied (c .before .before))) (is-ready s), s .pre .1 .1),
       allowed-few (system (s .args .n) (now (s .args .m)) (now (s .args .r))) _ _ (s .pre .0),
     )
 
@@ -41,12 +39,12 @@ start c = c .before .before .before .before .before .before
 
 logged : (c : tie.After-repeat) →
     let a = start c .args in
-    Logged (sweeps (a .n) (sweep once (system (a .n) (now (a .m)) (now (a .r)))) (a .allowed) (now (a .bounds))) (now (a .bounds)) (c .repeat .result) (c .repeat .last .1 .1 .1 .0)
+    Logged (sweeps (a .n) (pass (a .halves) (system (a .n) (now (a .m)) (now (a .r)))) (a .allowed) (now (a .bounds))) (now (a .bounds)) (c .repeat .result) (c .repeat .last .1 .1 .1 .1 .0)
 logged c = logged-from _ _ _ (copied (c .before .before .before)) (c .repeat .ensures)
 
 -- the box after the sweeps is as long as the lent one
-left-long : (c : tie.After-repeat) → length (c .repeat .last .1 .1 .1 .0) ≡ length (now (start c .args .bounds))
-left-long c = c .repeat .kept .1 .1 .1 .0 ∙ c .before .before .before .copy-out .kept .0 ∙ as-long (start c)
+left-long : (c : tie.After-repeat) → length (c .repeat .last .1 .1 .1 .1 .0) ≡ length (now (start c .args .bounds))
+left-long c = c .repeat .kept .1 .1 .1 .1 .0 ∙ c .before .before .before .copy-out .kept .0 ∙ as-long (start c)
 
 number-requires : tie.Need-number-requires
 number-requires c κs = search needs
@@ -65,7 +63,7 @@ returns c =
     let n = c .before .before .before .before .before in
     let p = n .before .before in
     ran-written (logged p) (λ e. c .before .before .before .before .if1 .taken (n .number .ensures ∙ e))
-    (copied-all (now (start p .args .bounds)) (p .repeat .last .1 .1 .1 .0) (c .before .copy-out2 .ensures) (sym (left-long p)))
+    (copied-all (now (start p .args .bounds)) (p .repeat .last .1 .1 .1 .1 .0) (c .before .copy-out2 .ensures) (sym (left-long p)))
 
 same-length-3 : tie.Need-same-length-3
 same-length-3 c = search needs

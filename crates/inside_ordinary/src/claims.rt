@@ -1,0 +1,7 @@
+// Claims about what this crate defines; docs/API.md says what such a function is.
+ghost use Rattle.inside_ordinary.specs.Passes.{InsideOrdinary};
+
+// Every box after a pass there and back lies inside the one after as many sweeps, unless the passes are refused.
+pub fn inside_ordinary()
+    ensures { λ _. ⌜ InsideOrdinary ⌝ }
+{}

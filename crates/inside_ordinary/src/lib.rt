@@ -1,0 +1,2 @@
+// Document 02, A5: what sweeping there and back gains. Statements and proofs only.
+pub mod claims;
