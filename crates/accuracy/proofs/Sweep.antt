@@ -1,7 +1,7 @@
 -- A pass keeps every solution, for any way to sum a row that encloses the exact sum.
 use mathlib.Core.Path.{_≡_, refl, ap, _∙_}
 use mathlib.Core.Bool.{Bool, true, false, cond}
-use mathlib.Core.List.{List, [], _∷_}
+use mathlib.Core.List.{List, [], _∷_, _++_}
 use Prim.Native.Nat.{ℕ, zero, suc, _+_, _*_, _<_}
 use native.Mathlib.Omega.{arith}
 use native.Mathlib.Nat.{zero-add}
@@ -23,9 +23,9 @@ use Rattle.inputs.specs.System.{System}
 use Rattle.inputs.proofs.Place.{length-put, at-put-same, at-put-other}
 use Rattle.rows.specs.Sum.{RowSum}
 use Rattle.rows.specs.Exact.{nought, exactRow, Encloses}
-use Rattle.sweep.proofs.Turns.{Below, there-below, there-and-back-below}
+use Rattle.sweep.proofs.Turns.{Below, sweep-below, symmetric-below, symmetric-along}
 use Rattle.sweep.proofs.Pass.{not-empty, component-narrows}
-use Rattle.sweep.specs.Pass.{component, along, there, thereAndBack, sweep, symmetric}
+use Rattle.sweep.specs.Pass.{component, along, up, down, sweep, symmetric}
 use Rattle.outcome.specs.declared.Outcome.the-variants as outcome
 use Rattle.outcome.specs.Run.{Run, refused}
 use Rattle.accuracy.specs.Solution.{Solution, InBox}
@@ -116,13 +116,10 @@ module _ (sum : RowSum) (encloses : Encloses sum) (s : System) where
       go true q g = earlier s f (λ x sol k. held-not-empty q (component-inside X i (b .0) x sol k))
       go false q g = g q
 
-  along-faithful : (is : List ℕ) → Below (s .size) is → Faithful s (along sum s is)
-  along-faithful is b = record { each = λ X l. along-follows is b l (follows-refl s X) }
-
   pub sweep-faithful : Faithful s (sweep sum s)
   unfolding sweep
-  sweep-faithful = along-faithful (there (s .size)) (there-below (s .size))
+  sweep-faithful = record { each = λ X l. along-follows (up (s .size) 0) (sweep-below (s .size)) l (follows-refl s X) }
 
   pub symmetric-faithful : Faithful s (symmetric sum s)
-  unfolding symmetric
-  symmetric-faithful = along-faithful (thereAndBack (s .size)) (there-and-back-below (s .size))
+  symmetric-faithful =
+      record { each = λ X l. rw (symmetric-along sum s X) (along-follows (up (s .size) 0 ++ down (s .size)) (symmetric-below (s .size)) l (follows-refl s X)) }

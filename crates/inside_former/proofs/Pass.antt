@@ -2,7 +2,7 @@
 -- sums of which the inner one's lies inside the outer one's.
 use mathlib.Core.Path.{_≡_, refl, sym, _∙_}
 use mathlib.Core.Bool.{Bool, true, false, cond}
-use mathlib.Core.List.{List, [], _∷_}
+use mathlib.Core.List.{List, [], _∷_, _++_}
 use Prim.Native.Nat.{ℕ, _+_, _*_, _<_}
 use native.Mathlib.Omega.{arith}
 use native.Mathlib.Nat.{zero-add}
@@ -23,9 +23,9 @@ use Rattle.inputs.specs.System.{System}
 use Rattle.inputs.proofs.Place.{at-put-same, at-put-other}
 use Rattle.rows.specs.Sum.{RowSum, singly, once}
 use Rattle.rows.proofs.Once.{Narrow, once-inside, sum-contains, once-narrows}
-use Rattle.sweep.specs.Pass.{component, along, there, thereAndBack, sweep, symmetric}
+use Rattle.sweep.specs.Pass.{component, along, up, down, sweep, symmetric}
 use Rattle.sweep.specs.Code.{Ready}
-use Rattle.sweep.proofs.Turns.{Below, there-below, there-and-back-below}
+use Rattle.sweep.proofs.Turns.{Below, sweep-below, symmetric-below, symmetric-along}
 use Rattle.sweep.proofs.Pass.{ready-put, ready-after}
 use Rattle.fraction.proofs.Contains.{contains-refl}
 use Rattle.inside_former.proofs.Inner.{Inner, narrow, OnPasses}
@@ -114,8 +114,7 @@ module _ {f g : RowSum} (tighter : Tighter f g) (s : System) (Z : List ℤ) (tes
 
   pub sweep-inner : (X Y : List ℤ) → Inner n X Y → OnPasses n (sweep f s X) (sweep g s Y)
   unfolding sweep
-  sweep-inner X Y h = along-inner (there n) (there-below n) h
+  sweep-inner X Y h = along-inner (up n 0) (sweep-below n) h
 
   pub symmetric-inner : (X Y : List ℤ) → Inner n X Y → OnPasses n (symmetric f s X) (symmetric g s Y)
-  unfolding symmetric
-  symmetric-inner X Y h = along-inner (thereAndBack n) (there-and-back-below n) h
+  symmetric-inner X Y h = rw (symmetric-along f s X, symmetric-along g s Y) (along-inner (up n 0 ++ down n) (symmetric-below n) h)

@@ -16,12 +16,12 @@ use Rattle.inputs.specs.Place.{at, put}
 use Rattle.inputs.specs.System.{System}
 use Rattle.inputs.proofs.Place.{at-put-same, at-put-other}
 use Rattle.rows.specs.Sum.{once}
-use Rattle.sweep.specs.Pass.{component, along, down, there, sweep, symmetric}
+use Rattle.sweep.specs.Pass.{component, along, down, sweep, symmetric}
 use Rattle.sweep.specs.Code.{Ready}
-use Rattle.sweep.proofs.Turns.{Below, there-below, down-below, along-both}
+use Rattle.sweep.proofs.Turns.{Below, down-below}
 use Rattle.sweep.proofs.Pass.{component-narrows, ready-put, ready-after}
 use Rattle.inside_former.proofs.Inner.{Inner, OnPasses}
-use Rattle.inside_former.proofs.Pass.{once-once, along-inner}
+use Rattle.inside_former.proofs.Pass.{once-once, sweep-inner}
 
 -- the system has passed its tests, with some box
 module _ (s : System) (Z : List ℤ) (tested : Ready (s .size) (s .matrix) (s .right) Z) where
@@ -60,10 +60,8 @@ module _ (s : System) (Z : List ℤ) (tested : Ready (s .size) (s .matrix) (s .r
       go false e k = k e
 
   pub pass-inner : (X Y : List ℤ) → Inner n X Y → OnPasses n (sweep once s X) (symmetric once s Y)
-  unfolding sweep symmetric andThen
-  pass-inner X Y h =
-      rw (along-both once s (there n) (down n) Y)
-      (go (along once s (there n) X) (along once s (there n) Y) (along-inner once-once s Z tested (there n) (there-below n) h))
+  unfolding symmetric andThen
+  pass-inner X Y h = go (sweep once s X) (sweep once s Y) (sweep-inner once-once s Z tested X Y h)
     where
       go : (r t : Run (List ℤ)) → OnPasses n r t → OnPasses n r (andThen t (λ W. along once s (down n) W))
       go r (refused o) c = c

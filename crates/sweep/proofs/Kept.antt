@@ -2,7 +2,7 @@
 use mathlib.Core.Path.{_≡_, refl}
 use mathlib.Core.Bool.{Bool, true, false, cond}
 use mathlib.Core.Logic.{_⊎_, inl, inr}
-use mathlib.Core.List.{List, [], _∷_}
+use mathlib.Core.List.{List, [], _∷_, _++_}
 use Prim.Native.Nat.{ℕ, zero, suc, _+_, _≤_}
 use native.Mathlib.Omega.{arith}
 use borrow.Author.Tests.{ne-eqb}
@@ -21,12 +21,12 @@ use Rattle.inputs.specs.Tests.{tested}
 use Rattle.inputs.specs.System.{System, system}
 use Rattle.inputs.proofs.Early.{Early, parts, early-sizes, early-all, early-number}
 use Rattle.rows.specs.Sum.{RowSum, once}
-use Rattle.sweep.specs.Pass.{component, along, there, thereAndBack, sweep, symmetric, differ}
+use Rattle.sweep.specs.Pass.{component, along, up, down, sweep, symmetric, differ}
 use Rattle.sweep.specs.Call.{Log, settled, after, sweeps, last, concluded, allowance, tests}
 use Rattle.sweep.specs.Calls.{Call, sweepCall, symmetricCall, runOver, runBy, callBy, call}
 use Rattle.sweep.specs.Code.{Ready}
 use Rattle.sweep.proofs.Tests.{ready, fits}
-use Rattle.sweep.proofs.Turns.{Below, there-below, there-and-back-below}
+use Rattle.sweep.proofs.Turns.{Below, sweep-below, symmetric-below, symmetric-along}
 use Rattle.sweep.proofs.Pass.{ready-put}
 
 module _ (n : ℕ) (m r : List ℤ) where
@@ -91,7 +91,8 @@ run-keeps s p keeps k x e = go (tests s k x) refl (early-tests s k x) e
 
 pub call-keeps : (s : System) (c : Call) (x : List ℤ) → (call s c x .number ≡ 0) ⊎ (call s c x .number ≡ 9)
     → (1 ≤ s .size) × Ready (s .size) (s .matrix) (s .right) (call s c x .left)
-unfolding callBy runBy sweep symmetric
-call-keeps s (sweepCall k) x e = run-keeps s (sweep once s) (λ y. along-keeps (s .size) (s .matrix) (s .right) once (there (s .size)) y (there-below (s .size))) k x e
+unfolding callBy runBy sweep
+call-keeps s (sweepCall k) x e = run-keeps s (sweep once s) (λ y. along-keeps (s .size) (s .matrix) (s .right) once (up (s .size) 0) y (sweep-below (s .size))) k x e
 call-keeps s (symmetricCall k) x e =
-    run-keeps s (symmetric once s) (λ y. along-keeps (s .size) (s .matrix) (s .right) once (thereAndBack (s .size)) y (there-and-back-below (s .size))) k x e
+    run-keeps s (symmetric once s)
+    (λ y w. rw (symmetric-along once s y) (along-keeps (s .size) (s .matrix) (s .right) once (up (s .size) 0 ++ down (s .size)) y (symmetric-below (s .size)) w)) k x e

@@ -14,7 +14,7 @@ use Rattle.interval.specs.Interval.{isEmpty}
 use Rattle.inputs.specs.Place.{put}
 use Rattle.inputs.specs.System.{System}
 use Rattle.rows.specs.Sum.{RowSum, once}
-use Rattle.sweep.specs.Pass.{component, along, up, down, there, thereAndBack, sweep, symmetric}
+use Rattle.sweep.specs.Pass.{component, along, up, down, sweep, symmetric}
 use Rattle.sweep.specs.Code.{turn, turns, pass}
 
 -- ---- the component of one turn
@@ -55,10 +55,10 @@ turns-on n (suc c) d k =
     let f : suc c + d ≡ suc (c + d) = omega arith in
     rw (e, f) (ap (λ is. turn n k ∷ is) (turns-on n c d (k + 1)))
 
-one-half : (n : ℕ) → turns n (1 * n) 0 ≡ there n
+one-half : (n : ℕ) → turns n (1 * n) 0 ≡ up n 0
 one-half n = let e : 1 * n ≡ n = omega arith in rw e (turns-up n n 0 (omega arith))
 
-both-halves : (n : ℕ) → turns n (2 * n) 0 ≡ thereAndBack n
+both-halves : (n : ℕ) → turns n (2 * n) 0 ≡ up n 0 ++ down n
 both-halves n =
     let e : 2 * n ≡ n + n = omega arith in
     let f : 0 + n ≡ n = omega arith in
@@ -83,14 +83,14 @@ both-below : (n : ℕ) (is js : List ℕ) → Below n is → Below n js → Belo
 both-below n [] js h k = k
 both-below n (i ∷ is) js h k = (h .0, both-below n is js (h .1) k)
 
-pub there-below : (n : ℕ) → Below n (there n)
-there-below n = up-below n n 0 (omega arith)
+pub sweep-below : (n : ℕ) → Below n (up n 0)
+sweep-below n = up-below n n 0 (omega arith)
 
-pub there-and-back-below : (n : ℕ) → Below n (thereAndBack n)
-there-and-back-below n = both-below n (up n 0) (down n) (there-below n) (down-below n n (omega arith))
+pub symmetric-below : (n : ℕ) → Below n (up n 0 ++ down n)
+symmetric-below n = both-below n (up n 0) (down n) (sweep-below n) (down-below n n (omega arith))
 
 -- ---- one list after another
-pub along-both : (sum : RowSum) (s : System) (is js : List ℕ) (X : List ℤ) → along sum s (is ++ js) X ≡ andThen (along sum s is X) (λ Y. along sum s js Y)
+along-both : (sum : RowSum) (s : System) (is js : List ℕ) (X : List ℤ) → andThen (along sum s is X) (λ Y. along sum s js Y) ≡ along sum s (is ++ js) X
 unfolding along andThen
 along-both sum s [] js X = refl
 along-both sum s (i ∷ is) js X = go (isEmpty v) (along-both sum s is js (put X i v))
@@ -98,11 +98,15 @@ along-both sum s (i ∷ is) js X = go (isEmpty v) (along-both sum s is js (put X
     v : Interval
     v = component sum s X i
 
-    go : (t : Bool) → along sum s (is ++ js) (put X i v) ≡ andThen (along sum s is (put X i v)) (λ Y. along sum s js Y)
-        → cond t (refused (outcome.Empty (i + 1))) (along sum s (is ++ js) (put X i v)) ≡
-        andThen (cond t (refused (outcome.Empty (i + 1))) (along sum s is (put X i v))) (λ Y. along sum s js Y)
+    go : (t : Bool) → andThen (along sum s is (put X i v)) (λ Y. along sum s js Y) ≡ along sum s (is ++ js) (put X i v)
+        → andThen (cond t (refused (outcome.Empty (i + 1))) (along sum s is (put X i v))) (λ Y. along sum s js Y) ≡
+        cond t (refused (outcome.Empty (i + 1))) (along sum s (is ++ js) (put X i v))
     go true e = refl
     go false e = e
+
+pub symmetric-along : (sum : RowSum) (s : System) (X : List ℤ) → symmetric sum s X ≡ along sum s (up (s .size) 0 ++ down (s .size)) X
+unfolding symmetric sweep
+symmetric-along sum s X = along-both sum s (up (s .size) 0) (down (s .size)) X
 
 -- ---- the passes
 pub pass-sweep : (s : System) → pass 1 s ≡ sweep once s
@@ -110,5 +114,5 @@ unfolding pass sweep
 pass-sweep s = λ i X. along once s (one-half (s .size) i) X
 
 pub pass-symmetric : (s : System) → pass 2 s ≡ symmetric once s
-unfolding pass symmetric
-pass-symmetric s = λ i X. along once s (both-halves (s .size) i) X
+unfolding pass
+pass-symmetric s = λ i X. (ap (λ is. along once s is X) (both-halves (s .size)) ∙ sym (symmetric-along once s X)) i

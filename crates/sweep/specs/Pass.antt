@@ -1,11 +1,11 @@
 -- Document 01, Sweeps; document 003, rule b)*: one sweep. Document 02, A5; document 001: one pass there and back.
 use mathlib.Core.Bool.{Bool, false, cond, _||_}
-use mathlib.Core.List.{List, [], _∷_, _++_}
+use mathlib.Core.List.{List, [], _∷_}
 use Prim.Native.Nat.{ℕ, zero, suc, _+_, _*_}
 use lib.IntN.{ℤ}
 use lib.Signed.{ltZ}
 use Rattle.outcome.specs.declared.Outcome.the-variants as outcome
-use Rattle.outcome.specs.Run.{Run, refused, done}
+use Rattle.outcome.specs.Run.{Run, refused, done, andThen}
 use Rattle.interval.specs.declared.Interval.{Interval}
 use Rattle.interval.specs.Interval.{exactSum, intersection, isEmpty}
 use Rattle.inputs.specs.Place.{at, put}
@@ -33,18 +33,12 @@ down zero = []
 down (suc i) = i ∷ down i
 
 -- 'For i from 1 to n'
-abbrev pub there : (n : ℕ) → List ℕ
-there n = up n 0
-
--- 'a sweep from vat 1 to n, then one from n to 1': 'both together are one pass'
-abbrev pub thereAndBack : (n : ℕ) → List ℕ
-thereAndBack n = up n 0 ++ down n
-
 unfoldable pub sweep : RowSum → System → List ℤ → Run (List ℤ)
-sweep sum s X = along sum s (there (s .size)) X
+sweep sum s X = along sum s (up (s .size) 0) X
 
+-- 'a sweep from vat 1 to n, then one from n to 1 that uses the newest boxes, each component intersected'. 'Both together are one pass'
 unfoldable pub symmetric : RowSum → System → List ℤ → Run (List ℤ)
-symmetric sum s X = along sum s (thereAndBack (s .size)) X
+symmetric sum s X = andThen (sweep sum s X) (λ Y. along sum s (down (s .size)) Y)
 
 -- the two have not the same ends
 unfoldable pub differs : Interval → Interval → Bool
