@@ -20,13 +20,13 @@ abbrev pub isEmptied : Log → Bool
 isEmptied l = eqb (numberAndPlace (ending l) .number) 7
 
 -- ---- sweeps from X of which all that is asked here is the same
-record Alike (l m : Log) (X : List ℤ) : Type 0 where
-  emptied : isEmptied l ≡ isEmptied m
-  box : (j : ℕ) → boxAfter l j X ≡ boxAfter m j X
-  left : (a : List ℤ) → last l a X ≡ last m a X
+pub record Alike (l m : Log) (X : List ℤ) : Type 0 where
+  pub emptied : isEmptied l ≡ isEmptied m
+  pub box : (j : ℕ) → boxAfter l j X ≡ boxAfter m j X
+  pub left : (a : List ℤ) → last l a X ≡ last m a X
 
 -- a pass that leaves its box as it is would leave it so again, however often
-stands : (n : ℕ) (p : List ℤ → Run (List ℤ)) (k : ℕ) (X : List ℤ) → p X ≡ done X → Alike settled (sweeps n p k X) X
+pub stands : (n : ℕ) (p : List ℤ → Run (List ℤ)) (k : ℕ) (X : List ℤ) → p X ≡ done X → Alike settled (sweeps n p k X) X
 unfolding sweeps boxAfter
 stands n p zero X e = record { emptied = refl; box = λ j. refl; left = λ a. refl }
 stands n p (suc k) X e = rw (e, differ-self X n 0) (record { emptied = refl; box = box; left = λ a. refl })

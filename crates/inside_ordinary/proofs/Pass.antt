@@ -28,7 +28,7 @@ module _ (s : System) (Z : List ℤ) (tested : Ready (s .size) (s .matrix) (s .r
   abbrev n : ℕ
   n = s .size
 
-  put-inner : {X Y : List ℤ} → Inner n X Y → (i : ℕ) → i < n → isEmpty (component once s Y i) ≡ false → Inner n X (put Y i (component once s Y i))
+  pub put-inner : {X Y : List ℤ} → Inner n X Y → (i : ℕ) → i < n → isEmpty (component once s Y i) ≡ false → Inner n X (put Y i (component once s Y i))
   put-inner {X} {Y} h i b e =
       let y = ready-put once (ready-after tested (h .new ∙ sym (tested .box)) (h .new-sound)) i b e in
       record {
@@ -46,7 +46,7 @@ module _ (s : System) (Z : List ℤ) (tested : Ready (s .size) (s .matrix) (s .r
       inside j (yes f) c = rw (f, at-put-same Y i v (omega (arith, h .new))) (contains-trans (rw f at c) (component-narrows once s Y i))
       inside j (no f) c = rw (at-put-other Y i j v f) c
 
-  further : (is : List ℕ) → Below n is → {X Y : List ℤ} → Inner n X Y → OnPasses n (done X) (along once s is Y)
+  pub further : (is : List ℕ) → Below n is → {X Y : List ℤ} → Inner n X Y → OnPasses n (done X) (along once s is Y)
   unfolding along
   further [] b h = h
   further (i ∷ is) b {X} {Y} h = go (isEmpty v) refl (λ e. further is (b .1) (put-inner h i (b .0) e))

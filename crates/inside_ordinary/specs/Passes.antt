@@ -25,3 +25,9 @@ pub record Inside (s : System) (allowed : ℕ) (X : List ℤ) : Type 0 where
 
 abbrev pub InsideOrdinary : Type 0
 InsideOrdinary = (s : System) (allowed : ℕ) (X : List ℤ) → Inside s allowed X
+
+-- where both settle, each within what it is allowed, they leave the same box
+abbrev pub SameSettled : Type 0
+SameSettled =
+    (s : System) (k j : ℕ) (X : List ℤ) → call s (sweepCall k) X .number ≡ 0 → call s (symmetricCall j) X .number ≡ 0 →
+    call s (sweepCall k) X .left ≡ call s (symmetricCall j) X .left

@@ -64,7 +64,7 @@ module _ (n : ℕ) (m r : List ℤ) where
       go (done y) h f = pick (differ x y n 0) y h (f y)
 
 -- ---- the numbers of the tests are 1 to 4
-early-tests : (s : System) (k : ℕ) (x : List ℤ) → Early (tests s k x)
+pub early-tests : (s : System) (k : ℕ) (x : List ℤ) → Early (tests s k x)
 unfolding tests allowance
 early-tests s k x = search (parts, early-sizes, early-all)
 

@@ -69,7 +69,7 @@ abbrev pub Below : (n : ℕ) → List ℕ → Type 0
 Below n [] = Unit {0}
 Below n (i ∷ is) = (i < n) × Below n is
 
-up-below : (n d i : ℕ) → i + d ≤ n → Below n (up d i)
+pub up-below : (n d i : ℕ) → i + d ≤ n → Below n (up d i)
 unfolding up
 up-below n zero i h = tt
 up-below n (suc d) i h = (omega arith, up-below n d (i + 1) (omega arith))
