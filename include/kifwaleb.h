@@ -5,7 +5,7 @@
  * makes. It is for x86-64 Linux.
  *
  * THE INTERFACE IS NOT FROZEN. A later version adds a slice of load-cell
- * readings to the two eliminations, the start box and the sweep. Header and
+ * readings to the two eliminations, the start box and both sweep calls. Header and
  * archive must come from the same version: C does not notice if they do not.
  *
  * Numbers are counts of units of one millionth: of a whole for shares, of a
@@ -50,7 +50,8 @@ extern "C" {
 #define KIFWALEB_LOWEST (-2000000000)
 #define KIFWALEB_HIGHEST 2000000000
 
-/* The most vats, and the most sweeps that may be allowed to one call. */
+/* The most vats, and the most sweeps, or passes there and back, that may be allowed
+ * to one call. */
 #define KIFWALEB_MOST_VATS 32
 #define KIFWALEB_MOST_SWEEPS 10000
 
@@ -232,6 +233,23 @@ KifwalebOutcome kifwaleb_sweep(size_t n,
                                const int64_t *b, size_t b_len,
                                int64_t *bounds, size_t bounds_len,
                                size_t allowed);
+
+/*
+ * As kifwaleb_sweep, but there and back: one pass goes from vat 1 to n and then from
+ * n to 1, always with the newest bounds, and is allowed and counted as one sweep.
+ * Outcomes as there. DONE if settled: the last whole pass changed nothing, on neither
+ * way. EMPTY comes on either way, and the count is of the whole passes before.
+ * A pass takes as long as two sweeps. Unless the answer is EMPTY, the box lies inside
+ * the one that kifwaleb_sweep leaves with as many sweeps allowed. EMPTY can come where
+ * kifwaleb_sweep has not found it out yet, and comes wherever kifwaleb_sweep says so.
+ * Where both settle they leave the same box: take this call where most milk runs against
+ * the numbering of the vats, and kifwaleb_sweep where most runs along it.
+ */
+KifwalebOutcome kifwaleb_symmetric_sweep(size_t n,
+                                         const int64_t *b_matrix, size_t b_matrix_len,
+                                         const int64_t *b, size_t b_len,
+                                         int64_t *bounds, size_t bounds_len,
+                                         size_t allowed);
 
 /*
  * Which of two boxes has the smaller sum of widths, a width being the upper end less

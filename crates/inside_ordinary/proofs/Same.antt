@@ -2,7 +2,7 @@
 use mathlib.Core.Path.{_≡_, refl, sym, ap, subst, _∙_}
 use mathlib.Core.Bool.{Bool, true, false, cond}
 use mathlib.Core.List.{List, [], _∷_, _++_}
-use Prim.Native.Nat.{ℕ, zero, suc, _+_, _*_, _≤_, _<_}
+use Prim.Native.Nat.{ℕ, zero, suc, _+_, _≤_, _<_}
 use native.Mathlib.Omega.{arith}
 use native.Mathlib.Decide.{ℕ-discrete}
 use lib.Dec.{eqb}
@@ -11,7 +11,7 @@ use Rattle.integer.proofs.Order.{antisym}
 use Rattle.outcome.specs.declared.Outcome.the-variants as outcome
 use Rattle.outcome.specs.Table.{numberAndPlace}
 use Rattle.outcome.specs.Run.{Run, refused, done, andThen, ended}
-use Rattle.outcome.proofs.Run.{never, done-same, joined}
+use Rattle.outcome.proofs.Run.{never, joined}
 use Rattle.interval.specs.Interval.{isEmpty}
 use Rattle.interval.proofs.Range.{same-ends}
 use Rattle.inputs.specs.declared.Test.{Test}

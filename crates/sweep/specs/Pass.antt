@@ -1,4 +1,4 @@
--- Document 01, Sweeps; document 003, rule b)*: one sweep. Document 02, A5; document 001: one pass there and back.
+-- Document 01, Sweeps; document 003, rule b)*: one sweep. Document 02, A5; document 001, section 4 and footnote 3: one pass there and back.
 use mathlib.Core.Bool.{Bool, false, cond, _||_}
 use mathlib.Core.List.{List, [], _∷_}
 use Prim.Native.Nat.{ℕ, zero, suc, _+_, _*_}
@@ -16,8 +16,8 @@ use Rattle.rows.specs.Sum.{RowSum}
 unfoldable pub component : RowSum → System → List ℤ → (i : ℕ) → Interval
 component sum s X i = intersection (exactSum (at (s .right) i) (sum (s .matrix) (i * s .size) X 0 (s .size))) (at X i)
 
--- the components of a list, one after the other: each 'with new, already intersected X(j)' of those before it, and old ones of the others,
--- its own too. An empty intersection is 7 with its component
+-- the components of a list, one after the other, each with the newest X(j): going up, 'with new, already intersected X(j) for j < i and old
+-- ones from i on'; either way 'the diagonal share meets its vat's own newest box'. An empty intersection is 7 with its component
 unfoldable pub along : RowSum → System → List ℕ → List ℤ → Run (List ℤ)
 along sum s [] X = done X
 along sum s (i ∷ is) X =
