@@ -14,9 +14,7 @@ use Rattle.integer.proofs.Order.{taken}
 use Rattle.interval.specs.declared.Interval.{Interval}
 use Rattle.interval.specs.Interval.{isEmpty}
 use Rattle.fraction.specs.Fraction.{Fraction, Inside, Same, millionths, sum, productAt}
-use Rattle.fraction.specs.Meaning.{Contains}
 use Rattle.fraction.proofs.Inside.{same-sym, inside-same, in-order, intersection-inside}
-use Rattle.fraction.proofs.Contains.{contains-refl}
 use Rattle.fraction.proofs.Sum.{sum-inside}
 use Rattle.inputs.specs.Place.{at, put}
 use Rattle.inputs.specs.System.{System}
@@ -24,7 +22,7 @@ use Rattle.inputs.proofs.Place.{length-put, at-put-same, at-put-other}
 use Rattle.rows.specs.Sum.{RowSum}
 use Rattle.rows.specs.Exact.{nought, exactRow, Encloses}
 use Rattle.sweep.proofs.Turns.{Below, sweep-below, symmetric-below, symmetric-along}
-use Rattle.sweep.proofs.Pass.{not-empty, component-narrows}
+use Rattle.sweep.proofs.Pass.{not-empty, component-narrows, put-narrows}
 use Rattle.sweep.specs.Pass.{component, along, up, down, sweep, symmetric}
 use Rattle.outcome.specs.declared.Outcome.the-variants as outcome
 use Rattle.outcome.specs.Run.{Run, refused}
@@ -83,7 +81,7 @@ module _ (sum : RowSum) (encloses : Encloses sum) (s : System) where
   put-follows X i h l e =
       record {
         as-long = length-put X i v;
-        narrowed = record { each = λ j k. by-place (λ j w. Contains (at X j) w) (component-narrows sum s X i) j (contains-refl (at X j)) };
+        narrowed = record { each = λ j k. put-narrows X i v (omega arith) (component-narrows sum s X i) j };
         ordered = λ o. record { each = λ j k. by-place (λ j w. w .lo ≤ℤ w .hi) (not-empty e) j (o .each j k) };
         keeps = λ x sol k. record { each = λ j m. by-place (λ j w. Inside w (x j)) (component-inside X i h x sol k) j (k .each j m) };
       }

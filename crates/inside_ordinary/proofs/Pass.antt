@@ -4,22 +4,19 @@ use mathlib.Core.Bool.{Bool, true, false, cond}
 use mathlib.Core.List.{List, [], _∷_}
 use Prim.Native.Nat.{ℕ, _+_, _<_}
 use native.Mathlib.Omega.{arith}
-use native.Mathlib.Decide.{ℕ-discrete}
 use lib.IntN.{ℤ}
 use Rattle.outcome.specs.declared.Outcome.the-variants as outcome
 use Rattle.outcome.specs.Run.{Run, refused, done, andThen}
 use Rattle.interval.specs.declared.Interval.{Interval}
 use Rattle.interval.specs.Interval.{isEmpty}
-use Rattle.fraction.specs.Meaning.{Contains}
 use Rattle.fraction.proofs.Contains.{contains-trans}
-use Rattle.inputs.specs.Place.{at, put}
+use Rattle.inputs.specs.Place.{put}
 use Rattle.inputs.specs.System.{System}
-use Rattle.inputs.proofs.Place.{at-put-same, at-put-other}
 use Rattle.rows.specs.Sum.{once}
 use Rattle.sweep.specs.Pass.{component, along, down, sweep, symmetric}
 use Rattle.sweep.specs.Code.{Ready}
 use Rattle.sweep.proofs.Turns.{Below, down-below}
-use Rattle.sweep.proofs.Pass.{component-narrows, ready-put, ready-after}
+use Rattle.sweep.proofs.Pass.{component-narrows, put-narrows, ready-put, ready-after}
 use Rattle.inside_former.proofs.Inner.{Inner, OnPasses}
 use Rattle.inside_former.proofs.Pass.{once-once, sweep-inner}
 
@@ -36,15 +33,8 @@ module _ (s : System) (Z : List ℤ) (tested : Ready (s .size) (s .matrix) (s .r
         new = y .box;
         former-sound = h .former-sound;
         new-sound = y .box-sound;
-        inside = record { each = λ j l. inside j (ℕ-discrete j i) (h .inside .each j l) };
+        inside = record { each = λ j l. contains-trans (h .inside .each j l) (put-narrows Y i _ (omega (arith, h .new)) (component-narrows once s Y i) j) };
       }
-    where
-      v : Interval
-      v = component once s Y i
-
-      inside : (j : ℕ) → Dec (j ≡ i) → Contains (at X j) (at Y j) → Contains (at X j) (at (put Y i v) j)
-      inside j (yes f) c = rw (f, at-put-same Y i v (omega (arith, h .new))) (contains-trans (rw f at c) (component-narrows once s Y i))
-      inside j (no f) c = rw (at-put-other Y i j v f) c
 
   pub further : (is : List ℕ) → Below n is → {X Y : List ℤ} → Inner n X Y → OnPasses n (done X) (along once s is Y)
   unfolding along

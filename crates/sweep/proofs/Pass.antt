@@ -50,6 +50,14 @@ pub component-narrows : (sum : RowSum) (s : System) (x : List ℤ) (i : ℕ) →
 unfolding component
 component-narrows sum s x i = intersection-narrows _ (at x i)
 
+-- a box with a narrower component is no wider anywhere
+pub put-narrows : (x : List ℤ) (i : ℕ) (v : Interval) → 2 * i + 1 < length x → Contains (at x i) v → (j : ℕ) → Contains (at x j) (at (put x i v) j)
+put-narrows x i v room h j = go (ℕ-discrete j i)
+  where
+    go : Dec (j ≡ i) → Contains (at x j) (at (put x i v) j)
+    go (yes e) = rw (e, at-put-same x i v room) h
+    go (no e) = rw (at-put-other x i j v e) (contains-refl (at x j))
+
 -- what is not empty is an interval, and the box stays one of intervals
 module _ (sum : RowSum) {n : ℕ} {m r x : List ℤ} (w : Ready n m r x) (i : ℕ) where
   component-accepted : isEmpty (component sum (system n m r) x i) ≡ false → acceptable (component sum (system n m r) x i) ≡ true
@@ -113,12 +121,8 @@ module _ {n d k : ℕ} {m r x₀ x : List ℤ} {c : Bool} (w : Halfway n d k m r
           ready = rw e (ready-put once (w .ready) i below (rw e at f));
           rest = w .rest ∙ goes-on f;
           flag = sym (differ-put x₀ x i v room (w .inside i) narrower n 0 (omega arith) (omega (arith, below)));
-          inside = λ j. contains-trans (w .inside j) (inside room narrower j (ℕ-discrete j i));
+          inside = λ j. contains-trans (w .inside j) (put-narrows x i v room narrower j);
         })
-      where
-        inside : 2 * i + 1 < length x → Contains (at x i) v → (j : ℕ) → Dec (j ≡ i) → Contains (at x j) (at (put x i v) j)
-        inside room u j (yes e) = rw (e, at-put-same x i v room) u
-        inside room u j (no e) = rw (at-put-other x i j v e) (contains-refl (at x j))
 
 -- a box that is as long, and of intervals
 pub ready-after : {n : ℕ} {m r x y : List ℤ} → Ready n m r x → length y ≡ length x → Sound y → Ready n m r y
