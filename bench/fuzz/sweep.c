@@ -1,6 +1,7 @@
 /*
- * A fuzzer over kifwaleb_sweep. The fuzzer's bytes become one call; what the
- * call answers is held to what the header promises of it.
+ * A fuzzer over kifwaleb_sweep and kifwaleb_symmetric_sweep. The fuzzer's bytes
+ * become one call; what the call answers is held to what the header promises of
+ * it.
  */
 #include "common.h"
 
@@ -11,8 +12,14 @@ enum { MOST_VATS = KIFWALEB_MOST_VATS, MOST_NUMBERS = 2 * 33 * 33 + 8 };
 
 typedef int64_t Box[MOST_NUMBERS];
 
+/* Either of the two. */
+typedef KifwalebOutcome Sweep(size_t n, const int64_t *b_matrix, size_t b_matrix_len,
+                              const int64_t *b, size_t b_len,
+                              int64_t *bounds, size_t bounds_len, size_t allowed);
+
 /* The call under way. */
 static struct {
+    Sweep *sweep;
     size_t n;
     size_t allowed;
     size_t lengths[SLICES];
@@ -25,14 +32,20 @@ static struct {
 
 static Lent lent[SLICES];
 
-/* How often a box was written that had to hold a known solution. */
-static uint64_t solutions_held;
+/* How often a box was written that had to hold a known solution, or to lie in another. */
+static uint64_t solutions_held, boxes_inside;
+
+static int there_and_back(void)
+{
+    return call.sweep == kifwaleb_symmetric_sweep;
+}
 
 static void show_call(void)
 {
     static const char *const names[SLICES] = { "matrix", "right side", "box" };
 
-    fprintf(stderr, "n %zu, allowed %zu%s\n", call.n, call.allowed,
+    fprintf(stderr, "%s, n %zu, allowed %zu%s\n",
+            there_and_back() ? "symmetric sweep" : "sweep", call.n, call.allowed,
             call.shared ? ", the right side lies in the matrix" : "");
     for (int s = 0; s < SLICES; s++) {
         fprintf(stderr, "%s, %zu numbers:", names[s], call.lengths[s]);
@@ -169,26 +182,30 @@ static KifwalebOutcome tested(size_t allowed)
 }
 
 /* Sweeps that go on for about as long as they are allowed. As long as the upper end of one vat is
- * above 999,999, that many millionths of it, rounded up, are one unit less. */
+ * above 999,999, that many millionths of it, rounded up, are one unit less. A pass there and back
+ * takes off two; the last one may have only one to take off. */
 static void make_slow(Bytes *bytes)
 {
     size_t vat = take(bytes) % call.n;
     unsigned kind = take(bytes);
     size_t changes = kind < 192 ? kind : 9996 + kind % 8;
+    size_t units = there_and_back() && changes > 0 ? 2 * changes - take(bytes) % 2 : changes;
     int64_t *own = call.numbers[MATRIX] + 2 * (vat * call.n + vat);
 
     memset(call.numbers, 0, sizeof call.numbers);
     own[0] = own[1] = 999999;
-    call.numbers[BOX][2 * vat + 1] = 999999 + (int64_t)changes;
+    call.numbers[BOX][2 * vat + 1] = 999999 + (int64_t)units;
     call.allowed = changes + take(bytes) % 4;
 }
 
 static void take_call(Bytes *bytes)
 {
     unsigned kind = take(bytes);
+    int back = take(bytes) % 2;
     size_t n = take_size(bytes);
     size_t few = n <= 33 ? n : 1;
 
+    call.sweep = back ? kifwaleb_symmetric_sweep : kifwaleb_sweep;
     call.n = n;
     call.allowed = take_allowed(bytes, n);
     for (int s = 0; s < SLICES; s++) {
@@ -219,7 +236,7 @@ static int64_t *numbers_of(const Lent *numbers)
 }
 
 /* Lends everything, with 'box' as the start box, and leaves in 'box' what the call left there. */
-static KifwalebOutcome swept(int64_t *box, size_t allowed)
+static KifwalebOutcome swept_by(Sweep *sweep, int64_t *box, size_t allowed)
 {
     const Lent *right = &lent[call.shared ? MATRIX : RIGHT];
     KifwalebOutcome outcome;
@@ -228,9 +245,9 @@ static KifwalebOutcome swept(int64_t *box, size_t allowed)
     for (int s = 0; s < SLICES; s++)
         lend(&lent[s], s == BOX ? box : call.numbers[s], call.lengths[s] * sizeof *box,
              call.last[s]);
-    outcome = kifwaleb_sweep(call.n, numbers_of(&lent[MATRIX]), call.lengths[MATRIX],
-                             numbers_of(right), call.lengths[RIGHT],
-                             numbers_of(&lent[BOX]), call.lengths[BOX], allowed);
+    outcome = sweep(call.n, numbers_of(&lent[MATRIX]), call.lengths[MATRIX],
+                    numbers_of(right), call.lengths[RIGHT],
+                    numbers_of(&lent[BOX]), call.lengths[BOX], allowed);
     written = outcome.number == KIFWALEB_DONE || outcome.number == KIFWALEB_SPENT;
     promised(kept(&lent[MATRIX], 0), "the matrix and what lies beside it stay as they are");
     promised(kept(&lent[RIGHT], 0), "the right side and what lies beside it stay as they are");
@@ -239,6 +256,11 @@ static KifwalebOutcome swept(int64_t *box, size_t allowed)
     if (written)
         memcpy(box, lent[BOX].slice, lent[BOX].length);
     return outcome;
+}
+
+static KifwalebOutcome swept(int64_t *box, size_t allowed)
+{
+    return swept_by(call.sweep, box, allowed);
 }
 
 /* How many units a call took off the widths; also that it widened nothing. */
@@ -298,15 +320,39 @@ static void check_alone(KifwalebOutcome outcome, size_t allowed,
 
 /* ---- what holds of several calls */
 
+/* Whichever call settled it, and whichever goes on. */
 static void check_settled(const int64_t *box)
 {
     static Box after;
+    static Sweep *const calls[] = { kifwaleb_sweep, kifwaleb_symmetric_sweep };
     KifwalebOutcome expected = { KIFWALEB_DONE, 0, 1 };
 
-    memcpy(after, box, 2 * call.n * sizeof *box);
-    promised(same_outcome(swept(after, call.allowed), expected),
-             "a settled box is settled after one sweep");
-    promised(memcmp(after, box, 2 * call.n * sizeof *box) == 0, "a settled box stays as it is");
+    for (int k = 0; k < 2; k++) {
+        memcpy(after, box, 2 * call.n * sizeof *box);
+        promised(same_outcome(swept_by(calls[k], after, call.allowed), expected),
+                 "a settled box is settled after one sweep of either call");
+        promised(memcmp(after, box, 2 * call.n * sizeof *box) == 0,
+                 "a settled box stays as it is");
+    }
+}
+
+/* A symmetric call against the ordinary one with as many sweeps allowed. A box in which either
+ * settled stands for all later ones. */
+static void check_inside(KifwalebOutcome symmetric, const int64_t *box)
+{
+    static Box around;
+    KifwalebOutcome ordinary;
+
+    memcpy(around, call.numbers[BOX], 2 * call.n * sizeof *box);
+    ordinary = swept_by(kifwaleb_sweep, around, call.allowed);
+    if (symmetric.number == KIFWALEB_EMPTY)
+        return;
+    promised(ordinary.number != KIFWALEB_EMPTY,
+             "where the ordinary call finds no solution the symmetric one finds none either");
+    for (size_t k = 0; k < 2 * call.n; k += 2)
+        promised(around[k] <= box[k] && box[k + 1] <= around[k + 1],
+                 "the box after each pass lies inside the ordinary one after as many sweeps");
+    boxes_inside++;
 }
 
 /* The same sweeps in two calls: the second only goes on if the first was spent. */
@@ -350,7 +396,8 @@ static void check_count(KifwalebOutcome whole, const int64_t *box)
 
 static void print_held(void)
 {
-    fprintf(stderr, "boxes that held a known solution: %" PRIu64 "\n", solutions_held);
+    fprintf(stderr, "boxes that held a known solution: %" PRIu64 ", that lay inside those of the"
+            " ordinary call: %" PRIu64 "\n", solutions_held, boxes_inside);
 }
 
 int LLVMFuzzerInitialize(int *argc, char ***argv)
@@ -384,6 +431,8 @@ int LLVMFuzzerTestOneInput(const uint8_t *data, size_t size)
         check_settled(box);
     if (outcome.number != KIFWALEB_SPENT)
         check_count(outcome, box);
+    if (there_and_back() && take(&bytes) % 4 == 0)
+        check_inside(outcome, box);
     if (call.allowed >= 2)
         check_parted(outcome, box, 1 + take(&bytes) % (call.allowed - 1));
     return 0;

@@ -2,7 +2,7 @@
 //! lengths and all.
 
 use crate::case::Slices;
-use crate::reference::{Call, Interval, Operation, Outcome};
+use crate::reference::{Call, Interval, Operation, Outcome, Pass};
 use crate::side::{Flat, Side};
 use kifwaleb::raw::{self, KifwalebOutcome};
 
@@ -37,8 +37,11 @@ impl Side for Archive {
         lend!(kifwaleb_start_box, n, lent)
     }
 
-    fn sweep(&self, n: usize, lent: Slices, allowed: usize) -> Outcome {
-        lend!(kifwaleb_sweep, n, lent, allowed)
+    fn sweep(&self, pass: Pass, n: usize, lent: Slices, allowed: usize) -> Outcome {
+        match pass {
+            Pass::There => lend!(kifwaleb_sweep, n, lent, allowed),
+            Pass::ThereAndBack => lend!(kifwaleb_symmetric_sweep, n, lent, allowed),
+        }
     }
 
     /// C is told a number; the Rust package makes a slice of it.

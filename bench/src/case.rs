@@ -47,6 +47,15 @@ impl Case {
         }
     }
 
+    /// Itself, lent.
+    pub fn slices(&mut self) -> Slices<'_> {
+        Slices {
+            matrix: &mut self.matrix,
+            right_side: &mut self.right_side,
+            bounds: &mut self.bounds,
+        }
+    }
+
     /// Lends copies to `call` and collects what it leaves behind.
     pub fn answer(&self, call: impl FnOnce(usize, Slices) -> Outcome) -> Answer {
         let mut matrix = Guarded::new(&self.matrix);

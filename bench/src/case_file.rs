@@ -3,7 +3,7 @@
 
 use crate::case::{Case, Slices};
 use crate::comparison::Boxes;
-use crate::reference::{self, Call, Interval, Operation, Outcome, MOST_EQUATIONS};
+use crate::reference::{self, Call, Interval, Operation, Outcome, Pass, MOST_EQUATIONS};
 use crate::side::Side;
 use crate::text_case::TextCase;
 use std::fmt::Write;
@@ -19,7 +19,7 @@ pub enum Entry {
     Eliminate(Call),
     StartBox,
     /// The sweeps allowed.
-    Sweep(usize),
+    Sweep(Pass, usize),
     Narrower(Boxes),
     Text(Vec<u8>),
     /// The numbers of the text, into slices of these lengths.
@@ -116,7 +116,8 @@ impl<'a> Rest<'a> {
             "A" => Entry::Eliminate(Call::Eliminate),
             "B" => Entry::Eliminate(Call::EliminateBalance),
             "X" => Entry::StartBox,
-            "S" => Entry::Sweep(self.number()),
+            "S" => Entry::Sweep(Pass::There, self.number()),
+            "Y" => Entry::Sweep(Pass::ThereAndBack, self.number()),
             "C" => Entry::Narrower(self.boxes()),
             "R" => Entry::Read(self.number(), self.number()),
             "N" => Entry::Name(self.number()),
@@ -175,7 +176,8 @@ fn letter(call: &Entry) -> char {
         Entry::Eliminate(Call::Eliminate) => 'A',
         Entry::Eliminate(Call::EliminateBalance) => 'B',
         Entry::StartBox => 'X',
-        Entry::Sweep(_) => 'S',
+        Entry::Sweep(Pass::There, _) => 'S',
+        Entry::Sweep(Pass::ThereAndBack, _) => 'Y',
         Entry::Narrower(_) => 'C',
         Entry::Read(..) => 'R',
         Entry::Name(_) => 'N',
@@ -196,7 +198,7 @@ fn arguments(call: &Entry) -> String {
             let [first, second] = [first, second].map(|numbers| joined(numbers));
             format!("{lengths}\n{}\n{}", first.trim_start(), second.trim_start())
         }
-        Entry::Sweep(number)
+        Entry::Sweep(_, number)
         | Entry::Name(number)
         | Entry::Report(number)
         | Entry::Print(number) => format!(" {number}"),
@@ -252,7 +254,7 @@ pub fn lines(entries: &[Entry], side: &impl Side) -> Vec<String> {
                 let chosen = side.narrower(*n, first, second);
                 format!(" {}{}", chosen.len(), joined(chosen))
             }
-            Entry::Eliminate(_) | Entry::StartBox | Entry::Sweep(_) => {
+            Entry::Eliminate(_) | Entry::StartBox | Entry::Sweep(..) => {
                 on_system(entry, lent.as_mut().expect("a system stands before"), side)
             }
             call => on_text(call, &text, side),
@@ -267,7 +269,7 @@ fn on_system(call: &Entry, lent: &mut Case, side: &impl Side) -> String {
     let answer = lent.answer(|n, slices: Slices| match call {
         Entry::Eliminate(call) => side.eliminate(*call, n, slices),
         Entry::StartBox => side.start_box(n, slices),
-        Entry::Sweep(allowed) => side.sweep(n, slices, *allowed),
+        Entry::Sweep(pass, allowed) => side.sweep(*pass, n, slices, *allowed),
         other => panic!("{other:?} is no call on a system"),
     });
     lent.bounds = answer.bounds.inside().to_vec();
@@ -277,7 +279,7 @@ fn on_system(call: &Entry, lent: &mut Case, side: &impl Side) -> String {
         count,
     } = answer.outcome;
     let counted = match call {
-        Entry::Sweep(_) => format!(" {count}"),
+        Entry::Sweep(..) => format!(" {count}"),
         _ => String::new(),
     };
     format!(" {number} {place}{counted}{}", joined(&lent.bounds))

@@ -2,7 +2,7 @@
 
 pub const USAGE: &str =
     "usage: differential [pairs=N] [systems=N] [starts=N] [sweeps=N] [boxes=N] [texts=N] \
-     [searches=N] [inside=N] [programs=N] [seed=N]";
+     [searches=N] [inside=N] [symmetric=N] [programs=N] [seed=N]";
 
 #[derive(Clone, Copy, Debug, PartialEq, Eq)]
 pub struct Plan {
@@ -12,7 +12,7 @@ pub struct Plan {
     pub systems: u64,
     /// Start boxes, faulty ones first.
     pub starts: u64,
-    /// Random sweep calls.
+    /// Random sweep calls, in lists of one kind or of both.
     pub sweeps: u64,
     /// Random pairs of boxes to choose from.
     pub boxes: u64,
@@ -22,6 +22,8 @@ pub struct Plan {
     pub searches: u64,
     /// Calls held against the calculation of before document 02's A4.
     pub inside: u64,
+    /// Symmetric sweep calls held against ordinary ones.
+    pub symmetric: u64,
     /// Texts for the program, edge texts and random ones.
     pub programs: usize,
     pub seed: u64,
@@ -37,6 +39,7 @@ impl Plan {
         texts: 300_000,
         searches: 2_000_000,
         inside: 1_000_000,
+        symmetric: 1_000_000,
         programs: 2_000,
         seed: 1,
     };
@@ -54,6 +57,7 @@ impl Plan {
                 ("texts", number) => plan.texts = number.parse().ok()?,
                 ("searches", number) => plan.searches = number.parse().ok()?,
                 ("inside", number) => plan.inside = number.parse().ok()?,
+                ("symmetric", number) => plan.symmetric = number.parse().ok()?,
                 ("programs", number) => plan.programs = number.parse().ok()?,
                 ("seed", number) => plan.seed = number.parse().ok()?,
                 _ => return None,
@@ -75,11 +79,12 @@ mod tests {
     fn arguments_come_in_any_sequence() {
         let plan = read(
             "pairs=2 systems=3 sweeps=5 texts=6 programs=7 seed=4 starts=8 boxes=9 searches=10 \
-             inside=11",
+             inside=11 symmetric=12",
         );
         assert_eq!(
             read(
-                "inside=11 searches=10 boxes=9 starts=8 seed=4 programs=7 texts=6 sweeps=5 systems=3 pairs=2"
+                "symmetric=12 inside=11 searches=10 boxes=9 starts=8 seed=4 programs=7 texts=6 \
+                 sweeps=5 systems=3 pairs=2"
             ),
             plan
         );
@@ -87,7 +92,7 @@ mod tests {
         assert_eq!([plan.pairs, plan.systems, plan.sweeps], [2, 3, 5]);
         assert_eq!([plan.texts, plan.programs as u64, plan.seed], [6, 7, 4]);
         assert_eq!([plan.starts, plan.boxes, plan.searches], [8, 9, 10]);
-        assert_eq!(plan.inside, 11);
+        assert_eq!([plan.inside, plan.symmetric], [11, 12]);
         assert_eq!(read(""), Some(Plan::DEFAULT));
     }
 

@@ -40,7 +40,7 @@ pub fn system_calls() -> Vec<(Entry, Case)> {
     for entry in entries(CASES) {
         match (entry, &lent) {
             (Entry::System(system), _) => lent = Some(system),
-            (call @ (Entry::Eliminate(_) | Entry::Sweep(_)), Some(lent)) => {
+            (call @ (Entry::Eliminate(_) | Entry::Sweep(..)), Some(lent)) => {
                 calls.push((call, lent.clone()));
             }
             _ => (),
@@ -85,7 +85,7 @@ mod tests {
     use super::*;
     use crate::archive::Archive;
     use crate::case::Slices;
-    use crate::reference::{calculate, Operation, Outcome};
+    use crate::reference::{calculate, Operation, Outcome, Pass};
     use crate::side::{Flat, Reference};
 
     #[test]
@@ -111,7 +111,7 @@ mod tests {
         fn start_box(&self, _: usize, _: Slices) -> Outcome {
             Outcome::DONE
         }
-        fn sweep(&self, _: usize, _: Slices, _: usize) -> Outcome {
+        fn sweep(&self, _: Pass, _: usize, _: Slices, _: usize) -> Outcome {
             Outcome::DONE
         }
         fn narrower<'a>(&self, _: usize, _: &'a [i64], _: &'a [i64]) -> &'a [i64] {

@@ -1,7 +1,7 @@
 //! The calls, as one of the sides does them.
 
 use crate::case::Slices;
-use crate::reference::{self, Call, Interval, Operation, Outcome, Step};
+use crate::reference::{self, Call, Interval, Operation, Outcome, Pass, Step};
 
 /// A step's answer laid flat: number, place, lower end, upper end.
 pub type Flat = (u64, u64, i64, i64);
@@ -12,7 +12,7 @@ pub trait Side {
     fn step(&self, operation: Operation, a: Interval, b: Interval) -> Flat;
     fn eliminate(&self, call: Call, n: usize, lent: Slices) -> Outcome;
     fn start_box(&self, n: usize, lent: Slices) -> Outcome;
-    fn sweep(&self, n: usize, lent: Slices, allowed: usize) -> Outcome;
+    fn sweep(&self, pass: Pass, n: usize, lent: Slices, allowed: usize) -> Outcome;
     /// One of the two itself, or an empty part where the first begins.
     fn narrower<'a>(&self, n: usize, first: &'a [i64], second: &'a [i64]) -> &'a [i64];
     fn report(&self, text: &mut [u8], out: &mut [u8]) -> Outcome;
@@ -43,8 +43,9 @@ impl Side for Reference {
         reference::start_box(n, lent.matrix, lent.right_side, lent.bounds)
     }
 
-    fn sweep(&self, n: usize, lent: Slices, allowed: usize) -> Outcome {
-        reference::sweep(n, lent.matrix, lent.right_side, lent.bounds, allowed)
+    fn sweep(&self, pass: Pass, n: usize, lent: Slices, allowed: usize) -> Outcome {
+        let (matrix, right_side, bounds) = (lent.matrix, lent.right_side, lent.bounds);
+        reference::sweep(pass, n, matrix, right_side, bounds, allowed)
     }
 
     fn narrower<'a>(&self, n: usize, first: &'a [i64], second: &'a [i64]) -> &'a [i64] {

@@ -1,16 +1,23 @@
 //! A list of sweep calls on one lent box.
 
 use crate::case::Case;
+use crate::reference::Pass;
 
 /// One case, swept by several calls one after the other. Each call gets the
 /// box as the one before left it.
 #[derive(Clone, Debug, PartialEq, Eq)]
 pub struct SweepList {
     pub lent: Case,
-    /// The number of sweeps allowed in each call.
-    pub allowed: Vec<usize>,
+    pub calls: Vec<SweepCall>,
     /// A solution of the balance, if one is known.
     pub solution: Option<Solution>,
+}
+
+/// Which of the two calls, and the number of sweeps allowed in it.
+#[derive(Clone, Copy, Debug, PartialEq, Eq)]
+pub struct SweepCall {
+    pub pass: Pass,
+    pub allowed: usize,
 }
 
 /// Weights in units, as fractions over one denominator above 0.
@@ -21,12 +28,30 @@ pub struct Solution {
 }
 
 impl SweepList {
+    /// Ordinary calls.
     pub fn new(lent: Case, allowed: &[usize]) -> SweepList {
+        let allowed = allowed.iter().copied();
+        let pass = Pass::There;
         SweepList {
             lent,
-            allowed: allowed.to_vec(),
+            calls: allowed.map(|allowed| SweepCall { pass, allowed }).collect(),
             solution: None,
         }
+    }
+
+    /// The calls do these passes in turn.
+    pub fn with(mut self, passes: &[Pass]) -> SweepList {
+        let calls = self.calls.iter_mut();
+        for (call, pass) in calls.zip(passes.iter().cycle()) {
+            call.pass = *pass;
+        }
+        self
+    }
+
+    /// True if it holds both calls.
+    pub fn is_mixed(&self) -> bool {
+        let holds = |pass| self.calls.iter().any(|call| call.pass == pass);
+        Pass::ALL.into_iter().all(holds)
     }
 
     /// True if a solution is known and lies in the box.
@@ -52,6 +77,19 @@ impl Solution {
 #[cfg(test)]
 mod tests {
     use super::*;
+    use crate::samples::program_input;
+    use Pass::{There, ThereAndBack};
+
+    #[test]
+    fn calls_do_the_passes_in_turn() {
+        let list = SweepList::new(program_input([0; 4]), &[5, 6, 7]);
+        assert!(!list.is_mixed());
+        let both = list.clone().with(&[ThereAndBack, There]);
+        let passes: Vec<_> = both.calls.iter().map(|call| call.pass).collect();
+        assert_eq!(passes, [ThereAndBack, There, ThereAndBack]);
+        assert!(both.is_mixed());
+        assert!(!list.with(&[ThereAndBack]).is_mixed());
+    }
 
     #[test]
     fn a_solution_lies_in_a_box_with_its_ends() {

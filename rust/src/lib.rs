@@ -40,7 +40,7 @@ mod texts;
 pub use boxes::narrower;
 pub use outcome::{Outcome, Refusal};
 pub use steps::{difference, product, quotient, sum, Interval, Step};
-pub use systems::{eliminate, eliminate_balance, start_box, sweep, Swept};
+pub use systems::{eliminate, eliminate_balance, start_box, sweep, symmetric_sweep, Swept};
 pub use texts::{report, Written};
 
 /// One whole, or one tonne, in units.
@@ -79,7 +79,7 @@ pub const HIGHEST: i64 = 2_000_000_000;
 /// ```
 pub const MOST_VATS: usize = 32;
 
-/// The most sweeps that may be allowed to one call.
+/// The most sweeps, or passes there and back, that may be allowed to one call.
 ///
 /// ```
 /// use kifwaleb::{sweep, Outcome, MOST_SWEEPS};

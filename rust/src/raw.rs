@@ -100,6 +100,18 @@ extern "C" {
         allowed: usize,
     ) -> KifwalebOutcome;
 
+    /// As [`symmetric_sweep`](crate::symmetric_sweep).
+    pub fn kifwaleb_symmetric_sweep(
+        n: usize,
+        b_matrix: *const i64,
+        b_matrix_len: usize,
+        b: *const i64,
+        b_len: usize,
+        bounds: *mut i64,
+        bounds_len: usize,
+        allowed: usize,
+    ) -> KifwalebOutcome;
+
     /// As [`narrower`](crate::narrower), by a number: 1 for the first, 2 for the
     /// second, 0 for neither. It is no number of the table of outcomes.
     pub fn kifwaleb_narrower(

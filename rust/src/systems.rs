@@ -1,9 +1,10 @@
-//! The two eliminations, the start box and the sweep call.
+//! The two eliminations, the start box and the two sweep calls.
 
-use crate::raw;
+use crate::raw::{self, KifwalebOutcome};
 use crate::Outcome;
 
-/// A sweep call's end, with the count of whole sweeps done.
+/// A sweep call's end, with the count of whole sweeps done, or of whole passes there and
+/// back.
 ///
 /// ```
 /// use kifwaleb::{sweep, Outcome, Swept};
@@ -111,9 +112,46 @@ pub fn start_box(n: usize, b_matrix: &[i64], b: &[i64], bounds: &mut [i64]) -> O
 /// assert_eq!(bounds, [3_000_000, 4_250_000, 1_500_000, 2_125_000]);
 /// ```
 pub fn sweep(n: usize, b_matrix: &[i64], b: &[i64], bounds: &mut [i64], allowed: usize) -> Swept {
-    let given = lend!(kifwaleb_sweep, n, b_matrix, b, bounds, allowed);
-    Swept {
-        outcome: given.into(),
-        count: given.count as usize,
+    lend!(kifwaleb_sweep, n, b_matrix, b, bounds, allowed).into()
+}
+
+/// As [`sweep`], but there and back: a pass goes from vat 1 to n and then from n to 1,
+/// always with the newest bounds, and is allowed and counted as one sweep.
+///
+/// Unless the call is refused, the box after each pass lies inside the one that [`sweep`]
+/// leaves after as many sweeps. It can be refused with
+/// [`Refusal::Empty`](crate::Refusal::Empty) where `sweep` is not, since it comes further
+/// with as many passes; never the other way round.
+///
+/// A pass takes about as long as two sweeps. It pays where milk runs against the numbering
+/// of the vats, as on the way back of a loop: there mostly half as many passes as sweeps
+/// settle a box, and in a long chain far fewer. Where most milk runs along the numbering,
+/// nearly as many are needed, and `sweep` takes about half the time.
+///
+/// ```
+/// use kifwaleb::{symmetric_sweep, Outcome};
+/// let shares = [0, 0, 0, 500_000, 500_000, 500_000, 0, 0];
+/// let deliveries = [3_000_000, 3_000_000, 0, 0];
+/// let mut bounds = [0, 10_000_000, 0, 10_000_000];
+/// let swept = symmetric_sweep(2, &shares, &deliveries, &mut bounds, 3);
+/// assert_eq!((swept.outcome, swept.count), (Outcome::Spent, 3));
+/// assert_eq!(bounds, [3_000_000, 4_062_500, 1_500_000, 2_125_000]);
+/// ```
+pub fn symmetric_sweep(
+    n: usize,
+    b_matrix: &[i64],
+    b: &[i64],
+    bounds: &mut [i64],
+    allowed: usize,
+) -> Swept {
+    lend!(kifwaleb_symmetric_sweep, n, b_matrix, b, bounds, allowed).into()
+}
+
+impl From<KifwalebOutcome> for Swept {
+    fn from(given: KifwalebOutcome) -> Swept {
+        Swept {
+            outcome: given.into(),
+            count: given.count as usize,
+        }
     }
 }

@@ -2,7 +2,7 @@
 //! that was lent.
 
 use kifwaleb::{difference, product, quotient, sum, Interval, Step, HIGHEST};
-use kifwaleb::{eliminate, eliminate_balance, narrower, report, start_box, sweep};
+use kifwaleb::{eliminate, eliminate_balance, narrower, report, start_box, sweep, symmetric_sweep};
 use kifwaleb::{raw, Outcome, Refusal, SHEET_LENGTH};
 
 const ONE: [i64; 2] = [1_000_000; 2];
@@ -85,14 +85,29 @@ fn the_narrower_box_is_handed_back_itself() {
 
 #[test]
 fn each_refusal_of_a_sweep_call_has_its_name() {
-    let swept = |delivery: &[i64], allowed, refusal| {
-        assert_refused(refusal, |bounds| {
-            sweep(1, &[0, 0], delivery, bounds, allowed).outcome
-        });
-    };
-    swept(&[7, 8], 0, Refusal::Allowed);
-    swept(&[1, 0], 1, Refusal::Ends(1));
-    swept(&[9, 9], 1, Refusal::Empty(1));
+    for call in [sweep, symmetric_sweep] {
+        let swept = |delivery: &[i64], allowed, refusal| {
+            assert_refused(refusal, |bounds| {
+                call(1, &[0, 0], delivery, bounds, allowed).outcome
+            });
+        };
+        swept(&[7, 8], 0, Refusal::Allowed);
+        swept(&[1, 0], 1, Refusal::Ends(1));
+        swept(&[9, 9], 1, Refusal::Empty(1));
+    }
+}
+
+/// x = x + 1 from 0 to 3: the lower end rises by a unit each way, so that it is past the
+/// upper one on the second way back.
+#[test]
+fn the_way_back_is_another_sweep_of_the_same_pass() {
+    let mut bounds = [0, 3];
+    let empty = symmetric_sweep(1, &ONE, &[1, 1], &mut bounds, 9);
+    assert_eq!(empty.outcome, Outcome::Refused(Refusal::Empty(1)));
+    assert_eq!((empty.count, bounds), (1, [0, 3]));
+    let spent = symmetric_sweep(1, &ONE, &[1, 1], &mut bounds, 1);
+    assert_eq!((spent.outcome, spent.count), (Outcome::Spent, 1));
+    assert_eq!(bounds, [2, 3]);
 }
 
 #[test]

@@ -111,7 +111,7 @@ fn kind(entries: &[Entry]) -> String {
 fn ending(line: &str) -> String {
     let words: Vec<_> = line.split(' ').collect();
     match words[1] {
-        "S" => format!("{}{}", words[2], words[4] > "1"),
+        "S" | "Y" => format!("{}{}{}", words[1], words[2], words[4] > "1"),
         _ => words[1..4].join(" "),
     }
 }
@@ -187,11 +187,12 @@ fn sweeps() -> Vec<Entry> {
     let random = random.filter(|list| has_few_vats(&list.lent));
     let lists = edge().step_by(3).chain(random);
     let entries = |list: SweepList| -> Vec<_> {
-        let calls = list.allowed.into_iter().map(Entry::Sweep);
+        let calls = list.calls.iter();
+        let calls = calls.map(|call| Entry::Sweep(call.pass, call.allowed));
         let system = [Entry::System(list.lent)];
         system.into_iter().chain(calls).collect()
     };
-    let mut all = chosen(lists.map(entries).collect(), 2, 80_000);
+    let mut all = chosen(lists.map(entries).collect(), 2, 112_000);
     let large = || edge_lists().filter(|list| has_most_vats(&list.lent));
     let far = large().filter(|list| has_far_sums(&list.lent)).step_by(20);
     all.extend(large().take(1).chain(far.take(8)).flat_map(entries));

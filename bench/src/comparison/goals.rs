@@ -2,7 +2,7 @@
 
 use super::searches::LONGEST;
 use super::tally::Goal;
-use crate::reference::{Call, Flaw, Operation, Phase, Stop, TextPart, MOST_EQUATIONS};
+use crate::reference::{Call, Flaw, Operation, Pass, Phase, Stop, TextPart, MOST_EQUATIONS};
 use std::ops::RangeInclusive;
 
 /// Sums on either side of the test whether they are below one.
@@ -126,7 +126,23 @@ pub fn of_narrower() -> Vec<Goal> {
     goals
 }
 
-pub fn of_sweep() -> Vec<Goal> {
+/// By the same call, and by the other one.
+pub const ON_WRITTEN: [&str; 2] = [
+    "0, 9 or 7 on a box that the same call has written",
+    "0, 9 or 7 on a box that the other call has written",
+];
+
+/// Of both calls, which come in lists together.
+pub fn of_sweeps() -> Vec<Goal> {
+    let of_one = Pass::ALL.into_iter().flat_map(|pass| {
+        let goals = of_sweep(pass).into_iter();
+        goals.map(move |goal| goal.by(pass.name()))
+    });
+    let mixed = Goal::once("a call of a list with both calls");
+    of_one.chain([mixed]).collect()
+}
+
+fn of_sweep(pass: Pass) -> Vec<Goal> {
     let sizes = || 1..=MOST_EQUATIONS;
     let mut goals = vec![
         Goal::at("0 for n", sizes()),
@@ -145,23 +161,49 @@ pub fn of_sweep() -> Vec<Goal> {
         "7 with a count above 0",
         "7 with a count above 1",
         "a count of 10,000",
-        "0, 9 or 7 on a box that the list has written",
         "0, 9 or 7 after a refusal in the list",
         "0 or 9 with a known solution in the box",
+    ];
+    goals.extend(single.map(Goal::once));
+    goals.extend(ON_WRITTEN.map(Goal::once));
+    if pass == Pass::ThereAndBack {
+        goals.push(Goal::at("7 on the way back at vat", sizes()));
+        goals.push(Goal::at(
+            "7 on the way back with a count of 0, above 0",
+            0..=1,
+        ));
+    }
+    goals
+}
+
+/// One vat's own share is met twice, so that its box can be narrower too.
+pub fn of_symmetric() -> Vec<Goal> {
+    let mut goals = vec![Goal::at(NARROWER[1], 1..=MOST_EQUATIONS)];
+    let single = [
+        "7 new",
+        "7 as before",
+        "settled sooner",
+        "settled, spent before",
+        "as before, but for the box",
     ];
     goals.extend(single.map(Goal::once));
     goals
 }
 
+/// By elimination, by sweeps on a lent box, and by sweeps after an elimination.
+pub const NARROWER: [&str; 3] = [
+    "narrower by elimination for n",
+    "narrower by sweeps for n",
+    "narrower by sweeps after elimination for n",
+];
+
 /// Rounding a row once changes nothing in a row of one product.
 pub fn of_inside() -> Vec<Goal> {
+    let [eliminated, swept, both] = NARROWER;
     let mut goals = vec![
-        Goal::at("narrower by elimination for n", 3..=MOST_EQUATIONS),
-        Goal::at("narrower by sweeps for n", 2..=MOST_EQUATIONS),
-        Goal::at(
-            "narrower by sweeps after elimination for n",
-            2..=MOST_EQUATIONS,
-        ),
+        Goal::at(eliminated, 3..=MOST_EQUATIONS),
+        Goal::at(swept, 2..=MOST_EQUATIONS),
+        Goal::at(both, 2..=MOST_EQUATIONS),
     ];
     let single = [
         "6 gone",

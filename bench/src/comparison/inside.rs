@@ -1,16 +1,18 @@
-//! Holding a side's boxes against the calculation as it was before document 02's A4,
-//! when every product of a row was rounded: they must lie inside.
+//! Holding a side's boxes against wider ones, in which they must lie: those of before
+//! document 02's A4, when every product of a row was rounded, and those of the ordinary
+//! sweep call against the symmetric one of A5.
 
+use super::goals::NARROWER;
 use super::lent::difference;
 use super::sweeps::end_of;
 use super::systems::trace_of;
 use super::{Tally, Trial};
 use crate::case::{Answer, Case};
 use crate::generator::balance_of;
-use crate::reference::{Call, Phase, Rounding, Stop, System};
+use crate::reference::{Call, Pass, Phase, Rounding, Stop, System};
 use crate::reference::{DONE, EMPTY, RESULT_OUT_OF_RANGE, SPENT};
 use crate::side::Side;
-use crate::sweep_list::SweepList;
+use crate::sweep_list::{SweepCall, SweepList};
 
 /// Of each call the first sweeps are compared one by one, up to this one.
 const FIRST_SWEEPS: usize = 5;
@@ -19,12 +21,24 @@ const FIRST_SWEEPS: usize = 5;
 /// box that its own elimination wrote.
 #[derive(Clone, Debug, PartialEq, Eq)]
 pub struct Inside {
+    pub against: Against,
     pub elimination: Option<Call>,
+    /// Whatever its calls are, `against` tells the pass.
     pub list: SweepList,
 }
 
-/// What one call answered before A4, and what the side answers.
+/// What the side's answers are held against; always the reference's.
+#[derive(Clone, Copy, Debug, PartialEq, Eq)]
+pub enum Against {
+    /// The same call with each product rounded.
+    BeforeA4,
+    /// The ordinary sweeps, as many as passes there and back.
+    Ordinary,
+}
+
+/// What one call answered as it is held against, and what the side answers.
 struct Answers {
+    against: Against,
     former: Answer,
     new: Answer,
     /// A 6 of the former came in back-substitution. Nothing before it has changed.
@@ -36,20 +50,20 @@ impl Trial for Inside {
     fn compare(&self, side: &impl Side, tally: &mut Tally) -> Result<(), String> {
         let lent = &self.list.lent;
         let mut boxes = [lent.clone(), lent.clone()];
-        let mut narrower = "narrower by sweeps for n";
+        let [by_elimination, mut narrower, after_elimination] = NARROWER;
         if let Some(call) = self.elimination {
             let answers = eliminated(call, lent, side);
-            self.note(&answers, "narrower by elimination for n", tally)?;
+            self.note(&answers, by_elimination, tally)?;
             if answers.numbers() != [DONE, DONE] {
                 return Ok(());
             }
             boxes = answers.written_over(&balance(call, lent));
-            narrower = "narrower by sweeps after elimination for n";
+            narrower = after_elimination;
         }
-        for allowed in self.list.allowed.iter().copied() {
+        for SweepCall { allowed, .. } in self.list.calls.iter().copied() {
             let mut left = boxes.clone();
-            for allowed in (1..allowed.min(FIRST_SWEEPS)).chain([allowed]) {
-                let answers = swept(&boxes, side, allowed);
+            for allowed in (1..allowed.min(FIRST_SWEEPS + 1)).chain([allowed]) {
+                let answers = swept(self.against, &boxes, side, allowed);
                 self.note(&answers, narrower, tally)?;
                 if answers.new.outcome.number == EMPTY {
                     return Ok(());
@@ -72,9 +86,14 @@ impl Inside {
     ) -> Result<(), String> {
         let Answers { former, new, .. } = answers;
         let Some(goal) = answers.goal(self.elimination) else {
-            let Inside { elimination, list } = self;
-            let calls = format!("{elimination:?} and sweeps {:?}", list.allowed);
-            let head = format!("a call of {calls}, held against that of before A4");
+            let Inside {
+                against,
+                elimination,
+                list,
+            } = self;
+            let allowed: Vec<_> = list.calls.iter().map(|call| call.allowed).collect();
+            let calls = format!("{elimination:?} and sweeps {allowed:?}");
+            let head = format!("a call of {calls}, held against {}", against.name());
             return Err(difference(&head, &list.lent, former, new));
         };
         tally.count(new.outcome.number);
@@ -91,6 +110,7 @@ fn eliminated(call: Call, lent: &Case, side: &impl Side) -> Answers {
     let trace = trace_of(Rounding::Singly, call, lent);
     let phases = [Phase::Numerator, Phase::Quotient];
     Answers {
+        against: Against::BeforeA4,
         former: lent.answer(|_, slices| trace.finish(slices.bounds)),
         new: lent.answer(|n, slices| side.eliminate(call, n, slices)),
         late: matches!(trace.end, Err(Stop::OutOfRange { phase, .. }) if phases.contains(&phase)),
@@ -107,12 +127,30 @@ fn balance(call: Call, lent: &Case) -> Case {
     }
 }
 
-fn swept([former, new]: &[Case; 2], side: &impl Side, allowed: usize) -> Answers {
-    let end = end_of(Rounding::Singly, former, allowed);
+fn swept(against: Against, [former, new]: &[Case; 2], side: &impl Side, allowed: usize) -> Answers {
+    let (rounding, pass) = match against {
+        Against::BeforeA4 => (Rounding::Singly, Pass::There),
+        Against::Ordinary => (Rounding::Once, Pass::ThereAndBack),
+    };
+    let ordinary = SweepCall {
+        pass: Pass::There,
+        allowed,
+    };
+    let end = end_of(rounding, ordinary, former);
     Answers {
+        against,
         former: former.answer(|_, slices| end.finish(slices.bounds)),
-        new: new.answer(|n, slices| side.sweep(n, slices, allowed)),
+        new: new.answer(|n, slices| side.sweep(pass, n, slices, allowed)),
         late: false,
+    }
+}
+
+impl Against {
+    fn name(self) -> &'static str {
+        match self {
+            Against::BeforeA4 => "that of before A4",
+            Against::Ordinary => "the ordinary sweeps",
+        }
     }
 }
 
@@ -138,6 +176,18 @@ impl Answers {
         })
     }
 
+    /// What one kind of sweeps has settled to, the other keeps. So both settle to the
+    /// same box, the symmetric one never later, and neither then says 7.
+    fn are_in_time(&self) -> bool {
+        let sooner = self.new.outcome.count <= self.former.outcome.count;
+        match self.numbers() {
+            [DONE, EMPTY | SPENT] => false,
+            [DONE, DONE] => sooner && self.former.bounds == self.new.bounds,
+            [EMPTY, EMPTY] => sooner,
+            _ => true,
+        }
+    }
+
     /// What the answers have reached; nothing if document 02 does not let them differ so.
     /// A 7 can be new for a caller's own box, but that of an elimination holds a solution.
     fn goal(&self, elimination: Option<Call>) -> Option<&'static str> {
@@ -145,6 +195,7 @@ impl Answers {
         let lower_row = new.number == RESULT_OUT_OF_RANGE && new.place < former.place;
         match self.numbers() {
             [DONE | SPENT | EMPTY, EMPTY] if elimination.is_some() => None,
+            _ if self.against == Against::Ordinary && !self.are_in_time() => None,
             [DONE | SPENT, EMPTY] => Some("7 new"),
             [EMPTY, EMPTY] => Some("7 as before"),
             [RESULT_OUT_OF_RANGE, DONE] if self.late => Some("6 gone"),

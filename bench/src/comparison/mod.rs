@@ -15,7 +15,7 @@ mod tests;
 mod texts;
 
 pub use choices::Boxes;
-pub use inside::Inside;
+pub use inside::{Against, Inside};
 pub use searches::{Memory, Search, LONGEST};
 pub use starts::StartBox;
 pub use steps::Pair;

@@ -43,7 +43,7 @@ impl Trial for StartBox {
                 let head = "start_box: a solution does not lie in the box";
                 Err(difference(head, lent, &expected, &given))
             }
-            Some(_) => swept.compare(side, &mut Tally::new(goals::of_sweep())),
+            Some(_) => swept.compare(side, &mut Tally::new(goals::of_sweeps())),
             None => Ok(()),
         }
     }

@@ -1,17 +1,18 @@
 //! Comparing lists of sweep calls.
 
-use super::goals::stopped;
+use super::goals::{stopped, ON_WRITTEN};
 use super::lent::difference;
 use super::{Tally, Trial};
 use crate::case::{Answer, Case};
-use crate::reference::{sweep_end, Rounding, SweepEnd, EMPTY, MOST_SWEEPS};
+use crate::reference::{sweep_end, Pass, Rounding, SweepEnd, EMPTY, MOST_SWEEPS};
 use crate::side::Side;
-use crate::sweep_list::SweepList;
+use crate::sweep_list::{SweepCall, SweepList};
 
 /// What the calls of a list before this one did to the box.
 #[derive(Default)]
 struct Before {
-    written: bool,
+    /// By the last call that wrote it.
+    written: Option<Pass>,
     refused: bool,
 }
 
@@ -19,11 +20,14 @@ impl Trial for SweepList {
     fn compare(&self, side: &impl Side, tally: &mut Tally) -> Result<(), String> {
         let mut lent = self.lent.clone();
         let mut before = Before::default();
-        for (index, allowed) in self.allowed.iter().copied().enumerate() {
-            let end = end_of(Rounding::Once, &lent, allowed);
+        let mixed = self.is_mixed();
+        for (index, call) in self.calls.iter().copied().enumerate() {
+            let SweepCall { pass, allowed } = call;
+            let end = end_of(Rounding::Once, call, &lent);
             let expected = lent.answer(|_, slices| end.finish(slices.bounds));
-            let given = lent.answer(|n, slices| side.sweep(n, slices, allowed));
-            let head = format!("sweep, {allowed} allowed, call {} of its list", index + 1);
+            let given = lent.answer(|n, slices| side.sweep(pass, n, slices, allowed));
+            let name = pass.name();
+            let head = format!("{name}, {allowed} allowed, call {} of its list", index + 1);
             if expected != given {
                 return Err(difference(&head, &lent, &expected, &given));
             }
@@ -32,20 +36,23 @@ impl Trial for SweepList {
                 let head = format!("{head}: a solution in the start box is lost");
                 return Err(difference(&head, &lent, &expected, &given));
             }
-            reach(tally, lent.n, allowed, &end);
+            reach(tally, lent.n, call, &end);
             if solved {
-                tally.reach("0 or 9 with a known solution in the box", 0);
+                tally.reach_by(name, "0 or 9 with a known solution in the box", 0);
             }
-            before.reach(tally, &end);
+            if mixed {
+                tally.reach("a call of a list with both calls", 0);
+            }
+            before.reach(tally, pass, &end);
             lent.bounds = expected.bounds.inside().to_vec();
         }
         Ok(())
     }
 }
 
-pub(super) fn end_of(rounding: Rounding, lent: &Case, allowed: usize) -> SweepEnd {
+pub(super) fn end_of(rounding: Rounding, call: SweepCall, lent: &Case) -> SweepEnd {
     let slices = [&lent.matrix[..], &lent.right_side, &lent.bounds];
-    sweep_end(rounding, lent.n, slices, allowed)
+    sweep_end(rounding, call.pass, lent.n, slices, call.allowed)
 }
 
 impl SweepList {
@@ -57,9 +64,11 @@ impl SweepList {
 }
 
 /// Counts what one call of n vats reached by itself.
-fn reach(tally: &mut Tally, n: usize, allowed: usize, end: &SweepEnd) {
+fn reach(tally: &mut Tally, n: usize, call: SweepCall, end: &SweepEnd) {
+    let SweepCall { pass, allowed } = call;
     let outcome = end.outcome();
     tally.count(outcome.number);
+    let mut reach = |goal, place| tally.reach_by(pass.name(), goal, place);
     let (goal, place) = match *end {
         SweepEnd::Refused(stop) => stopped(n, stop),
         SweepEnd::Allowance if allowed == 0 => ("4 for no sweeps", 0),
@@ -68,7 +77,7 @@ fn reach(tally: &mut Tally, n: usize, allowed: usize, end: &SweepEnd) {
         SweepEnd::Settled { .. } => ("0 for n", n),
         SweepEnd::Spent { .. } => ("9 for n", n),
     };
-    tally.reach(goal, place);
+    reach(goal, place);
     let count = outcome.count;
     let further = match *end {
         SweepEnd::Settled { .. } if count > 1 => Some("0 with a count above 1"),
@@ -76,29 +85,43 @@ fn reach(tally: &mut Tally, n: usize, allowed: usize, end: &SweepEnd) {
         SweepEnd::Empty { .. } if count > 0 => Some("7 with a count above 0"),
         _ => None,
     };
-    further.into_iter().for_each(|goal| tally.reach(goal, 0));
+    further.into_iter().for_each(|goal| reach(goal, 0));
     if matches!(end, SweepEnd::Settled { .. }) && count > 1 && count == allowed as u64 {
-        tally.reach("0 by the last allowed sweep, above 1", 0);
+        reach("0 by the last allowed sweep, above 1", 0);
     }
     if matches!(end, SweepEnd::Empty { .. }) && count > 1 {
-        tally.reach("7 with a count above 1", 0);
+        reach("7 with a count above 1", 0);
     }
     if count == MOST_SWEEPS as u64 {
-        tally.reach("a count of 10,000", 0);
+        reach("a count of 10,000", 0);
+    }
+    if let SweepEnd::Empty {
+        vat, back: true, ..
+    } = *end
+    {
+        reach("7 on the way back at vat", vat);
+        let above = usize::from(count > 0);
+        reach("7 on the way back with a count of 0, above 0", above);
     }
 }
 
 impl Before {
     /// Counts what a call reached by its place in the list.
-    fn reach(&mut self, tally: &mut Tally, end: &SweepEnd) {
+    fn reach(&mut self, tally: &mut Tally, pass: Pass, end: &SweepEnd) {
         let calculated = !matches!(end, SweepEnd::Refused(_) | SweepEnd::Allowance);
-        if calculated && self.written {
-            tally.reach("0, 9 or 7 on a box that the list has written", 0);
+        if calculated && self.written.is_some() {
+            tally.reach_by(
+                pass.name(),
+                ON_WRITTEN[usize::from(self.written != Some(pass))],
+                0,
+            );
         }
         if calculated && self.refused {
-            tally.reach("0, 9 or 7 after a refusal in the list", 0);
+            tally.reach_by(pass.name(), "0, 9 or 7 after a refusal in the list", 0);
         }
-        self.written |= end.bounds().is_some();
-        self.refused |= end.bounds().is_none();
+        match end.bounds() {
+            Some(_) => self.written = Some(pass),
+            None => self.refused = true,
+        }
     }
 }

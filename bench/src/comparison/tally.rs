@@ -6,6 +6,8 @@ use std::ops::RangeInclusive;
 /// vats, rows, lines. What has no place is at 0.
 #[derive(Clone, Debug, PartialEq, Eq)]
 pub struct Goal {
+    /// Of several calls that are counted together, the one that reaches it.
+    call: &'static str,
     name: &'static str,
     places: RangeInclusive<usize>,
 }
@@ -25,7 +27,20 @@ impl Goal {
     }
 
     pub const fn at(name: &'static str, places: RangeInclusive<usize>) -> Goal {
-        Goal { name, places }
+        let call = "";
+        Goal { call, name, places }
+    }
+
+    /// Reached by this call alone.
+    pub fn by(self, call: &'static str) -> Goal {
+        Goal { call, ..self }
+    }
+
+    fn full_name(&self) -> String {
+        match self.call {
+            "" => self.name.to_string(),
+            call => format!("{call}: {}", self.name),
+        }
     }
 
     fn has_places(&self) -> bool {
@@ -50,7 +65,13 @@ impl Tally {
 
     /// Counts what a call reached. Nothing else than the goals can be reached.
     pub fn reach(&mut self, name: &'static str, place: usize) {
-        let goal = self.goals.iter().position(|goal| goal.name == name);
+        self.reach_by("", name, place);
+    }
+
+    /// The same for a goal of this call alone.
+    pub fn reach_by(&mut self, call: &'static str, name: &'static str, place: usize) {
+        let mut goals = self.goals.iter();
+        let goal = goals.position(|goal| goal.call == call && goal.name == name);
         let goal = goal.filter(|goal| self.goals[*goal].places.contains(&place));
         let goal = goal.unwrap_or_else(|| panic!("no call reaches '{name}', place {place}"));
         self.reached[goal][place - self.goals[goal].places.start()] += 1;
@@ -66,9 +87,9 @@ impl Tally {
         for (goal, reached) in self.goals.iter().zip(&self.reached) {
             for (place, count) in goal.places.clone().zip(reached) {
                 if *count == 0 && goal.has_places() {
-                    names.push(format!("{} {place}", goal.name));
+                    names.push(format!("{} {place}", goal.full_name()));
                 } else if *count == 0 {
-                    names.push(goal.name.to_string());
+                    names.push(goal.full_name());
                 }
             }
         }
@@ -81,12 +102,13 @@ impl Tally {
         let met = numbers.filter(|(_, count)| **count > 0);
         let met = met.map(|(number, count)| format!("{number}: {count}"));
         let mut lines = vec![met.collect::<Vec<_>>().join(", ")];
-        for (Goal { name, places }, reached) in self.goals.iter().zip(&self.reached) {
+        for (goal, reached) in self.goals.iter().zip(&self.reached) {
             let counts: Vec<_> = reached.iter().map(u64::to_string).collect();
-            let range = match places.end() {
+            let range = match goal.places.end() {
                 0 => String::new(),
-                last => format!(" {} to {last}", places.start()),
+                last => format!(" {} to {last}", goal.places.start()),
             };
+            let name = goal.full_name();
             lines.push(format!("  {name}{range}: {}", counts.join(", ")));
         }
         lines.join("\n")

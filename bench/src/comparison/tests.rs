@@ -3,7 +3,7 @@
 
 use super::*;
 use crate::case::{Case, Slices};
-use crate::reference::{Call, Interval, Operation, Outcome, LIMIT};
+use crate::reference::{Call, Interval, Operation, Outcome, Pass, LIMIT};
 use crate::samples::{identity, three_equations, INPUT};
 use crate::side::{Flat, Reference};
 use crate::sweep_list::{Solution, SweepList};
@@ -105,8 +105,8 @@ impl Side for Changed {
         self.numbers(Reference.start_box(n, lent.again()), lent)
     }
 
-    fn sweep(&self, n: usize, mut lent: Slices, allowed: usize) -> Outcome {
-        self.numbers(Reference.sweep(n, lent.again(), allowed), lent)
+    fn sweep(&self, pass: Pass, n: usize, mut lent: Slices, allowed: usize) -> Outcome {
+        self.numbers(Reference.sweep(pass, n, lent.again(), allowed), lent)
     }
 
     /// The empty part behind the first, if it is to be another than the right one.
@@ -197,7 +197,10 @@ fn every_number_of_an_answer_is_compared() {
         lent: Case::new(&system),
     });
     assert_compared(&goals::of_elimination(call), &both, &CHANGES);
-    assert_compared(&goals::of_sweep(), &[list(&[2, 0, 100])], &CHANGES);
+    let [there, back] = Pass::ALL;
+    let lists = [&[there][..], &[back], &[there, back], &[back, there]];
+    let lists = lists.map(|passes| list(&[2, 0, 100, 1]).with(passes));
+    assert_compared(&goals::of_sweeps(), &lists, &CHANGES);
     let starts = [list(&[]), SweepList::new(Case::new(&identity(2)), &[])].map(StartBox);
     assert_compared(&goals::of_start_box(), &starts, &CHANGES);
     let boxes = [[0, 5], [7, 7], [1, 0]].map(|ends| Boxes {
@@ -217,25 +220,37 @@ fn every_number_of_an_answer_is_compared() {
 #[test]
 fn a_box_wider_than_the_former_one_is_noticed() {
     let goals = goals::of_inside();
-    let lent = |list| Inside {
+    let lent = |against, list| Inside {
+        against,
         elimination: None,
         list,
     };
     let mut empty = list(&[1]);
     empty.lent.bounds = vec![5, 5];
-    assert_compared(&goals, &[lent(empty)], &CHANGES[..1]);
+    let ways = [Against::BeforeA4, Against::Ordinary];
+    for against in ways {
+        assert_compared(&goals, &[lent(against, empty.clone())], &CHANGES[..1]);
+    }
     let eliminated = [[1_000_000, 0], [0, 0], [1, LIMIT], [1, 0]].map(|[pivot, below]| {
         let mut system = identity(2);
         system.set_a(1, 1, Interval::point(pivot));
         system.set_a(2, 1, Interval::point(below));
         Inside {
+            against: Against::BeforeA4,
             elimination: Some(Call::Eliminate),
             list: SweepList::new(Case::new(&system), &[2]),
         }
     });
-    let trials = [&[lent(list(&[3, 0, 100]))], &eliminated[..]].concat();
+    let mut swept = list(&[3, 0, 100]);
+    let former = lent(Against::BeforeA4, swept.clone());
+    let trials = [&[former], &eliminated[..]].concat();
     let changes = [&CHANGES[..2], &CHANGES[7..]].concat();
     assert_compared(&goals, &trials, &changes);
+    // Without a share both calls leave the same box, so that a wider one shows.
+    swept.lent.matrix.fill(0);
+    let changes = [&CHANGES[..3], &CHANGES[7..]].concat();
+    let ordinary = lent(Against::Ordinary, swept);
+    assert_compared(&goals::of_symmetric(), &[ordinary], &changes);
 }
 
 #[test]
@@ -249,14 +264,19 @@ fn a_wrong_length_of_the_sheet_is_expected_as_the_call_answers_it() {
 /// A call gets the box that the one before left: 100, 51, 27 units.
 #[test]
 fn a_list_goes_on_with_its_box() {
+    let goals = Tally::new(goals::of_sweeps()).unreached();
     let tally = compare(
-        goals::of_sweep(),
+        goals::of_sweeps(),
         [list(&[1, 0, 1, 10_001, 5])].into_iter(),
         9,
         &Reference,
     );
     let unreached = tally.unwrap().unreached();
-    for reached in ["0, 9 or 7 on a box that the list has written", "9 for n 1"] {
+    for reached in [
+        "sweep: 0, 9 or 7 on a box that the same call has written",
+        "sweep: 9 for n 1",
+    ] {
+        assert!(goals.contains(&reached.to_string()), "{reached}");
         assert!(!unreached.iter().any(|goal| goal == reached), "{reached}");
     }
 }
@@ -269,7 +289,7 @@ fn a_lost_solution_is_reported() {
         denominator: 1,
     });
     let lists = [wrong.clone()].into_iter();
-    let text = compare(goals::of_sweep(), lists, 9, &Reference).unwrap_err();
+    let text = compare(goals::of_sweeps(), lists, 9, &Reference).unwrap_err();
     assert!(text.contains("is lost"), "{text}");
     let start = [StartBox(wrong)].into_iter();
     let text = compare(goals::of_start_box(), start, 9, &Reference).unwrap_err();

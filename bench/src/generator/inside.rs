@@ -1,7 +1,8 @@
-//! Calls to hold against the calculation of before document 02's A4.
+//! Calls to hold against the calculation of before document 02's A4, and symmetric
+//! sweep calls to hold against ordinary ones.
 
 use super::{random_cases, random_lists, Random};
-use crate::comparison::Inside;
+use crate::comparison::{Against, Inside};
 use crate::reference::Call;
 use crate::sweep_list::SweepList;
 use std::iter;
@@ -21,6 +22,21 @@ pub fn insides(seed: u64) -> impl Iterator<Item = Inside> {
                 (Some(call), SweepList::new(lent, &allowed))
             }
         };
-        Some(Inside { elimination, list })
+        let against = Against::BeforeA4;
+        Some(Inside {
+            against,
+            elimination,
+            list,
+        })
+    })
+}
+
+/// Without end, always the same for the same seed. Many start boxes are those that
+/// elimination writes.
+pub fn symmetric_insides(seed: u64) -> impl Iterator<Item = Inside> {
+    random_lists(seed).map(|list| Inside {
+        against: Against::Ordinary,
+        elimination: None,
+        list,
     })
 }

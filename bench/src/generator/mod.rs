@@ -13,7 +13,7 @@ mod systems;
 mod texts;
 
 pub use choices::boxes_up_to;
-pub use inside::insides;
+pub use inside::{insides, symmetric_insides};
 pub use pairs::{edge_pairs, random_pairs};
 pub use random::Random;
 pub use searches::searches;

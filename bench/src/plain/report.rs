@@ -4,7 +4,7 @@
 use super::elimination::eliminate_balance;
 use super::sweep::sweep;
 use crate::reference::{
-    read_text, CellarText, Outcome, DONE, FAULTY_LENGTH, SHEET_LENGTH, SHEET_SWEEPS, SPENT,
+    read_text, CellarText, Outcome, Pass, DONE, FAULTY_LENGTH, SHEET_LENGTH, SHEET_SWEEPS, SPENT,
 };
 use std::io::Write;
 
@@ -24,7 +24,8 @@ fn calculated(text: &CellarText, out: &mut [u8]) -> Outcome {
     if eliminated != Outcome::DONE {
         return eliminated;
     }
-    let swept = sweep(n, matrix, right_side, &mut bounds, SHEET_SWEEPS);
+    let there = Pass::There;
+    let swept = sweep(there, n, matrix, right_side, &mut bounds, SHEET_SWEEPS);
     let word = match swept.number {
         DONE => "settled",
         SPENT => "spent",

@@ -6,7 +6,7 @@ use crate::comparison::{compare, goals, Elimination, Goal, Trial};
 use crate::generator::{
     edge_cases, edge_lists, edge_texts, random_cases, random_lists, random_texts, starts_up_to,
 };
-use crate::reference::{Call, Interval, Operation, Outcome, MOST_EQUATIONS};
+use crate::reference::{Call, Interval, Operation, Outcome, Pass, MOST_EQUATIONS};
 use crate::side::{Flat, Side};
 
 struct Plain;
@@ -25,8 +25,9 @@ impl Side for Plain {
         start_box(n, lent.matrix, lent.right_side, lent.bounds)
     }
 
-    fn sweep(&self, n: usize, lent: Slices, allowed: usize) -> Outcome {
-        sweep(n, lent.matrix, lent.right_side, lent.bounds, allowed)
+    fn sweep(&self, pass: Pass, n: usize, lent: Slices, allowed: usize) -> Outcome {
+        let (matrix, right_side, bounds) = (lent.matrix, lent.right_side, lent.bounds);
+        sweep(pass, n, matrix, right_side, bounds, allowed)
     }
 
     fn narrower<'a>(&self, _: usize, _: &'a [i64], _: &'a [i64]) -> &'a [i64] {
@@ -60,7 +61,7 @@ fn eliminations_are_the_same() {
 #[test]
 fn sweeps_are_the_same() {
     let lists = edge_lists().chain(random_lists(31));
-    assert_same(goals::of_sweep(), lists, 600_000);
+    assert_same(goals::of_sweeps(), lists, 1_300_000);
 }
 
 #[test]

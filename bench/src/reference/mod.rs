@@ -29,7 +29,7 @@ pub use search::first_byte;
 pub use sheet::{print, report, report_end, sheet, ReportEnd, SHEET_LENGTH, SHEET_SWEEPS};
 pub use start_box::{start_box, started, sums, Sums};
 pub use steps::{difference, product, quotient, step, sum, Operation, Step};
-pub use sweep::{sweep, sweep_end, sweeps, SweepEnd, MOST_SWEEPS};
+pub use sweep::{sweep, sweep_end, sweeps, Pass, SweepEnd, MOST_SWEEPS};
 pub use system::{intervals, laid_flat, System, MOST_EQUATIONS};
 pub use text::{name_range, read_text, CellarText, Flaw, TextFault, TextPart};
 pub use text::{LONGEST_NAME, MOST_BYTES, MOST_DIGITS};

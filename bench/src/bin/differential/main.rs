@@ -6,7 +6,7 @@ use kifwaleb_bench::archive::Archive;
 use kifwaleb_bench::comparison::{compare, goals, Elimination, Goal, Pair, Trial};
 use kifwaleb_bench::generator::{
     boxes_up_to, edge_cases, edge_lists, edge_pairs, edge_texts, insides, random_cases,
-    random_lists, random_pairs, random_texts, searches, starts_up_to,
+    random_lists, random_pairs, random_texts, searches, starts_up_to, symmetric_insides,
 };
 use kifwaleb_bench::plan::{Plan, USAGE};
 use kifwaleb_bench::reference::{Call, Operation, MOST_EQUATIONS};
@@ -88,15 +88,15 @@ fn starts_and_choices_hold(plan: &Plan) -> bool {
 fn sweeps_hold(plan: &Plan) -> bool {
     let random = random_lists(plan.seed);
     holds(
-        "sweep",
+        "sweeps",
         "edge calls",
-        goals::of_sweep(),
+        goals::of_sweeps(),
         edge_lists(),
         u64::MAX,
     ) && holds(
-        "sweep",
+        "sweeps",
         "random calls",
-        goals::of_sweep(),
+        goals::of_sweeps(),
         random,
         plan.sweeps,
     )
@@ -126,14 +126,11 @@ fn searches_hold(plan: &Plan) -> bool {
 }
 
 fn boxes_lie_inside(plan: &Plan) -> bool {
-    let (goals, insides) = (goals::of_inside(), insides(plan.seed));
-    holds(
-        "inside",
-        "random pairs of calls",
-        goals,
-        insides,
-        plan.inside,
-    )
+    let [former, symmetric] = [goals::of_inside(), goals::of_symmetric()];
+    let kind = "random pairs of calls";
+    let back = symmetric_insides(plan.seed);
+    holds("inside", kind, former, insides(plan.seed), plan.inside)
+        && holds("symmetric", kind, symmetric, back, plan.symmetric)
 }
 
 /// Compares one row and prints the difference, or what was reached. True if

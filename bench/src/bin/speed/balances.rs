@@ -3,12 +3,12 @@
 use kifwaleb_bench::case::Case;
 use kifwaleb_bench::generator::{settling, Random};
 use kifwaleb_bench::plain;
-use kifwaleb_bench::reference::{Interval, Outcome, System, DONE, MOST_SWEEPS};
+use kifwaleb_bench::reference::{Interval, Outcome, Pass, System, DONE, MOST_SWEEPS};
 
 const ONE: i64 = 1_000_000;
 
-/// More than any call may sweep.
-const CHANGES: i64 = 2 * MOST_SWEEPS as i64;
+/// More than any call may take off, also by passes there and back.
+const CHANGES: i64 = 3 * MOST_SWEEPS as i64;
 
 /// No share is 0, none is negative, and each row comes to less than 0.9.
 pub fn shares(n: usize) -> Case {
@@ -98,7 +98,8 @@ pub fn slow(mut others: Case) -> Case {
         bounds,
         ..
     } = &mut others;
-    let settled = plain::sweep(n - 1, matrix, right_side, bounds, MOST_SWEEPS);
+    let there = Pass::There;
+    let settled = plain::sweep(there, n - 1, matrix, right_side, bounds, MOST_SWEEPS);
     assert_eq!(settled.number, DONE);
     let mut case = slow_noughts(n);
     let rows = case.matrix.chunks_exact_mut(2 * n);

@@ -7,36 +7,59 @@ use kifwaleb_bench::archive::Archive;
 use kifwaleb_bench::case::{Case, Slices};
 use kifwaleb_bench::generator::{long_named_text, short_named_text};
 use kifwaleb_bench::plain;
+use kifwaleb_bench::reference::Pass::{There, ThereAndBack};
 use kifwaleb_bench::reference::{
-    Call, Outcome, DONE, FAULTY_ENDS, MOST_SWEEPS, SHEET_LENGTH, SPENT,
+    Call, Outcome, Pass, DONE, FAULTY_ENDS, MOST_SWEEPS, SHEET_LENGTH, SPENT,
 };
 use kifwaleb_bench::side::Side as _;
+use kifwaleb_bench::sweep_list::SweepCall;
 use std::hint::black_box;
 
 #[derive(Clone, Copy)]
 pub enum Side {
     /// The archive.
     Ours,
-    /// Everyday Rust.
+    /// Everyday Rust, or the archive's ordinary sweeps against its symmetric ones.
     Theirs,
 }
 
 /// What a task is called, and how it is made for so many vats.
 pub type Kind = (&'static str, fn(usize) -> Task);
 
-pub const KINDS: [Kind; 14] = [
+pub const KINDS: [Kind; 21] = [
     ("eliminate-shares", |n| Task::Eliminate(shares(n))),
     ("eliminate-mixed", |n| Task::Eliminate(mixed(n))),
     ("start-shares", |n| Task::Start(shares(n))),
     ("start-mixed", |n| Task::Start(mixed(n))),
     ("start-columns", |n| Task::Start(heavy_row(n))),
-    ("sweep-shares", |n| Task::sweep(with_wide_box(shares(n)), 1)),
-    ("sweep-mixed", |n| Task::sweep(with_wide_box(mixed(n)), 1)),
-    ("slow-noughts", |n| {
-        Task::sweep(slow_noughts(n), MOST_SWEEPS)
+    ("sweep-shares", |n| {
+        Task::sweep(There, with_wide_box(shares(n)), 1)
     }),
-    ("slow-dense", |n| Task::sweep(slow(shares(n - 1)), MOST_SWEEPS)),
-    ("slow-mixed", |n| Task::sweep(slow(mixed(n - 1)), MOST_SWEEPS)),
+    ("sweep-mixed", |n| {
+        Task::sweep(There, with_wide_box(mixed(n)), 1)
+    }),
+    ("slow-noughts", |n| {
+        Task::sweep(There, slow_noughts(n), MOST_SWEEPS)
+    }),
+    ("slow-dense", |n| {
+        Task::sweep(There, slow(shares(n - 1)), MOST_SWEEPS)
+    }),
+    ("slow-mixed", |n| {
+        Task::sweep(There, slow(mixed(n - 1)), MOST_SWEEPS)
+    }),
+    ("symmetric-shares", |n| {
+        Task::sweep(ThereAndBack, with_wide_box(shares(n)), 1)
+    }),
+    ("symmetric-mixed", |n| {
+        Task::sweep(ThereAndBack, with_wide_box(mixed(n)), 1)
+    }),
+    ("symmetric-slow", |n| {
+        Task::sweep(ThereAndBack, slow(mixed(n - 1)), MOST_SWEEPS)
+    }),
+    ("pass-dense", |n| Task::passes(slow(shares(n - 1)), 1)),
+    ("pass-mixed", |n| Task::passes(slow(mixed(n - 1)), 1)),
+    ("passes-dense", |n| Task::passes(slow(shares(n - 1)), 100)),
+    ("passes-mixed", |n| Task::passes(slow(mixed(n - 1)), 100)),
     ("read-longest", |n| Task::report(&crossed(longest(n)))),
     ("read-noughts", |n| {
         Task::on_text(short_named_text(&crossed(noughts(n))))
@@ -54,7 +77,9 @@ pub enum Task {
     Sweep {
         lent: Case,
         start: Vec<i64>,
-        allowed: usize,
+        call: SweepCall,
+        /// Theirs are the archive's ordinary sweeps, twice as many.
+        twice: bool,
     },
     Report {
         text: Vec<u8>,
@@ -63,11 +88,22 @@ pub enum Task {
 }
 
 impl Task {
-    fn sweep(lent: Case, allowed: usize) -> Task {
+    fn sweep(pass: Pass, lent: Case, allowed: usize) -> Task {
+        Task::swept(lent, SweepCall { pass, allowed }, false)
+    }
+
+    /// Passes there and back against as many sweeps as they have halves.
+    fn passes(lent: Case, allowed: usize) -> Task {
+        let pass = ThereAndBack;
+        Task::swept(lent, SweepCall { pass, allowed }, true)
+    }
+
+    fn swept(lent: Case, call: SweepCall, twice: bool) -> Task {
         Task::Sweep {
             start: lent.bounds.clone(),
             lent,
-            allowed,
+            call,
+            twice,
         }
     }
 
@@ -88,15 +124,21 @@ impl Task {
 
     fn run_once(&mut self, side: Side) -> Outcome {
         match self {
-            Task::Eliminate(lent) => side.eliminate(lent.n, slices(black_box(lent))),
-            Task::Start(lent) => side.start_box(lent.n, slices(black_box(lent))),
+            Task::Eliminate(lent) => side.eliminate(lent.n, black_box(lent).slices()),
+            Task::Start(lent) => side.start_box(lent.n, black_box(lent).slices()),
             Task::Sweep {
                 lent,
                 start,
-                allowed,
+                call: SweepCall { pass, allowed },
+                twice,
             } => {
                 lent.bounds.copy_from_slice(black_box(start));
-                side.sweep(lent.n, slices(lent), *allowed)
+                match side {
+                    Side::Theirs if *twice => {
+                        Archive.sweep(There, lent.n, lent.slices(), 2 * *allowed)
+                    }
+                    side => side.sweep(*pass, lent.n, lent.slices(), *allowed),
+                }
             }
             Task::Report { text, out } => side.report(black_box(text), out),
         }
@@ -104,14 +146,17 @@ impl Task {
 
     /// Both sides must do the same, and what the case is meant to show.
     pub fn assert_same_answers(&mut self) {
-        let [ours, theirs] = [Side::Ours, Side::Theirs].map(|side| {
+        let [ours, mut theirs] = [Side::Ours, Side::Theirs].map(|side| {
             let outcome = self.run_once(side);
             (outcome, self.left_behind())
         });
+        if let Task::Sweep { twice: true, .. } = self {
+            theirs.0.count /= 2;
+        }
         assert!(ours == theirs, "the two sides answer differently");
         let (number, count) = (ours.0.number, ours.0.count);
         match self {
-            Task::Sweep { allowed, .. } => assert_eq!((number, count), (SPENT, *allowed as u64)),
+            Task::Sweep { call, .. } => assert_eq!((number, count), (SPENT, call.allowed as u64)),
             // A text that is only read is refused for its first interval.
             Task::Report { .. } => assert!(number == DONE || number == FAULTY_ENDS),
             Task::Eliminate(_) | Task::Start(_) => assert_eq!(number, DONE),
@@ -140,14 +185,6 @@ fn crossed(mut case: Case) -> Case {
     case
 }
 
-fn slices(case: &mut Case) -> Slices<'_> {
-    Slices {
-        matrix: &mut case.matrix,
-        right_side: &mut case.right_side,
-        bounds: &mut case.bounds,
-    }
-}
-
 impl Side {
     fn eliminate(self, n: usize, lent: Slices) -> Outcome {
         match self {
@@ -163,10 +200,13 @@ impl Side {
         }
     }
 
-    fn sweep(self, n: usize, lent: Slices, allowed: usize) -> Outcome {
+    fn sweep(self, pass: Pass, n: usize, lent: Slices, allowed: usize) -> Outcome {
         match self {
-            Side::Ours => Archive.sweep(n, lent, allowed),
-            Side::Theirs => plain::sweep(n, lent.matrix, lent.right_side, lent.bounds, allowed),
+            Side::Ours => Archive.sweep(pass, n, lent, allowed),
+            Side::Theirs => {
+                let (matrix, right_side, bounds) = (lent.matrix, lent.right_side, lent.bounds);
+                plain::sweep(pass, n, matrix, right_side, bounds, allowed)
+            }
         }
     }
 

@@ -1,7 +1,8 @@
-//! Numbers of sweeps allowed.
+//! Which calls a list has, and the numbers of sweeps allowed.
 
 use crate::generator::Random;
-use crate::reference::{System, MOST_SWEEPS};
+use crate::reference::{Pass, System, MOST_SWEEPS};
+use crate::sweep_list::SweepCall;
 
 /// Refused numbers. Cut to fewer bits, the far ones would pass for the near.
 #[rustfmt::skip]
@@ -18,10 +19,14 @@ const ACCEPTED: [usize; 16] = [
     1, 1, 1, 2, 2, 3, 4, 5, 8, 13, 30, 60, 100, 1_000, 9_999, 10_000,
 ];
 
-/// The numbers for one list of calls.
-pub fn for_list(random: &mut Random, balance: &System) -> Vec<usize> {
+/// One list of calls, of either kind.
+pub fn for_list(random: &mut Random, balance: &System) -> Vec<SweepCall> {
     let calls = random.pick(&[1, 1, 1, 2, 2, 3, 4, 6]);
-    (0..calls).map(|_| for_call(random, balance)).collect()
+    let call = |_| SweepCall {
+        pass: random.pick(&Pass::ALL),
+        allowed: for_call(random, balance),
+    };
+    (0..calls).map(call).collect()
 }
 
 fn for_call(random: &mut Random, balance: &System) -> usize {

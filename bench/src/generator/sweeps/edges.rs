@@ -3,18 +3,25 @@
 use super::{faults, lent, slow, small};
 use crate::case_file::Entry;
 use crate::generator::rows;
-use crate::reference::{Interval, System, LIMIT};
+use crate::reference::{Interval, Pass, System, LIMIT};
 use crate::samples;
 use crate::sweep_list::{Solution, SweepList};
 
 const ONE: i64 = 1_000_000;
 
-/// Every edge list.
+/// Every edge list, with ordinary calls, with symmetric ones, and with both in turn.
 pub fn edge_lists() -> impl Iterator<Item = SweepList> {
+    let [there, back] = Pass::ALL;
+    let passes: [&[Pass]; 3] = [&[there], &[back], &[back, there]];
+    let passes = passes.map(<[Pass]>::to_vec).into_iter();
+    passes.flat_map(|passes| lists().map(move |list| list.with(&passes)))
+}
+
+fn lists() -> impl Iterator<Item = SweepList> {
     let sampled = samples::system_calls().into_iter();
     sampled
         .filter_map(|(call, lent)| match call {
-            Entry::Sweep(allowed) => Some(SweepList::new(lent, &[allowed, 1])),
+            Entry::Sweep(_, allowed) => Some(SweepList::new(lent, &[allowed, 1])),
             _ => None,
         })
         .chain(solved())
@@ -27,6 +34,7 @@ pub fn edge_lists() -> impl Iterator<Item = SweepList> {
         .chain(far_sums())
         .chain(carries())
         .chain(chains())
+        .chain(broken_chains())
         .chain(touching())
         .chain(small::awkward_numbers())
         .chain(slow::lists())
@@ -38,12 +46,11 @@ fn solved() -> impl Iterator<Item = SweepList> {
     let sample = samples::program_input([0, 10 * ONE, 0, 10 * ONE]);
     let solutions = [[4_000_000, 2_000_000], [3_000_000, 1_500_000]];
     solutions.into_iter().map(move |weights| SweepList {
-        lent: sample.clone(),
-        allowed: vec![1, 0, 1, 10_001, 3, 100, 1],
         solution: Some(Solution {
             numerators: weights.to_vec(),
             denominator: 1,
         }),
+        ..SweepList::new(sample.clone(), &[1, 0, 1, 10_001, 3, 100, 1])
     })
 }
 
@@ -58,7 +65,8 @@ fn carries() -> impl Iterator<Item = SweepList> {
 }
 
 /// Each vat gets all from its neighbour. From the vat before, one sweep is
-/// enough; from the vat after, every sweep takes one vat further.
+/// enough; from the vat after, every sweep takes one vat further, and one pass there
+/// and back is enough.
 fn chains() -> impl Iterator<Item = SweepList> {
     (1..=32).flat_map(|n: usize| {
         let widest = vec![Interval::new(-LIMIT, LIMIT); n];
@@ -72,6 +80,20 @@ fn chains() -> impl Iterator<Item = SweepList> {
                 vec![n.max(2) - 1, 0, 2, 9],
             ];
             lists.map(|allowed| SweepList::new(case.clone(), &allowed))
+        })
+    })
+}
+
+/// One vat cannot get what its neighbour gives: every sweep comes one vat nearer, a pass
+/// there and back finds it on its way, or on its way back.
+fn broken_chains() -> impl Iterator<Item = SweepList> {
+    let sizes = [2, 3, 4, 8, 32].into_iter();
+    let places = sizes.flat_map(|n: usize| (1..=n).map(move |vat| (n, vat)));
+    places.flat_map(|(n, vat)| {
+        [true, false].map(|forwards| {
+            let mut start = vec![Interval::new(0, LIMIT); n];
+            start[vat - 1] = Interval::new(8, 9);
+            SweepList::new(lent(&chain(n, forwards), &start), &[1, n, 40])
         })
     })
 }

@@ -77,14 +77,14 @@ pub fn two_ends() -> impl Iterator<Item = SweepList> {
 #[cfg(test)]
 mod tests {
     use super::*;
-    use crate::reference::Outcome;
+    use crate::reference::{Outcome, Pass};
     use crate::side::{Reference, Side};
+    use crate::sweep_list::SweepCall;
 
     fn outcome(list: &SweepList) -> Outcome {
-        let allowed = list.allowed[0];
-        let answer = list
-            .lent
-            .answer(|n, slices| Reference.sweep(n, slices, allowed));
+        let SweepCall { pass, allowed } = list.calls[0];
+        let lent = &list.lent;
+        let answer = lent.answer(|n, slices| Reference.sweep(pass, n, slices, allowed));
         answer.outcome
     }
 
@@ -106,7 +106,8 @@ mod tests {
     fn refused_numbers_precede_ends_and_follow_lengths() {
         assert!(allowances().all(|list| outcome(&list) == Outcome::new(4, 0)));
         for list in lengths() {
-            let none = list.lent.answer(|n, slices| Reference.sweep(n, slices, 0));
+            let lent = &list.lent;
+            let none = lent.answer(|n, slices| Reference.sweep(Pass::There, n, slices, 0));
             let right = outcome(&list).number != 2;
             assert_eq!(none.outcome.number, if right { 4 } else { 2 });
         }

@@ -1,5 +1,5 @@
-//! Balances in which one end moves by one unit in each sweep, so that the
-//! count of any call is known.
+//! Balances in which one end moves by one unit in each sweep and by two in each pass
+//! there and back, so that the count of any call is known.
 
 use super::lent;
 use crate::case::Case;
@@ -20,31 +20,31 @@ fn alone(n: usize, vat: usize, share: i64, delivery: i64, upper: i64) -> Case {
     lent(&balance, &start)
 }
 
-/// The upper end falls in so many sweeps, then the box is settled.
-pub fn settling(n: usize, vat: usize, changes: i64) -> Case {
-    alone(n, vat, 999_999, 0, 999_999 + changes)
+/// The upper end falls by so many units, then the box is settled.
+pub fn settling(n: usize, vat: usize, units: i64) -> Case {
+    alone(n, vat, 999_999, 0, 999_999 + units)
 }
 
-/// The lower end rises in so many sweeps, then the intersection is empty.
-pub fn emptying(n: usize, vat: usize, changes: i64) -> Case {
-    alone(n, vat, ONE, 1, changes)
+/// The lower end rises by so many units, then the intersection is empty.
+pub fn emptying(n: usize, vat: usize, units: i64) -> Case {
+    alone(n, vat, ONE, 1, units)
 }
 
 /// Counts around every limit, and lists in which the limit comes later.
 pub fn lists() -> impl Iterator<Item = SweepList> {
     let few = [0, 1, 2, 3, 9];
-    let many = [9_997, 9_998, 9_999, 10_000, 10_001, 20_000];
-    let one_vat = few.into_iter().chain(many).flat_map(|changes| {
-        let cases = [settling(1, 1, changes), emptying(1, 1, changes)];
+    let many = [9_997..=10_001, 19_996..=20_001].into_iter().flatten();
+    let one_vat = few.into_iter().chain(many).flat_map(|units| {
+        let cases = [settling(1, 1, units), emptying(1, 1, units)];
         cases.into_iter().flat_map(allowances)
     });
     let sizes = (1..=32).flat_map(move |n| {
         let vats = (1..=n).filter(move |vat| n <= 4 || n == 32 || *vat == n);
-        vats.flat_map(move |vat| few.map(|changes| (n, vat, changes)))
+        vats.flat_map(move |vat| few.map(|units| (n, vat, units)))
     });
-    let any_vat = sizes.flat_map(|(n, vat, changes)| {
+    let any_vat = sizes.flat_map(|(n, vat, units)| {
         let short: [&[usize]; 4] = [&[1, 1, 1, 1], &[2, 0, 2], &[3], &[4, 11]];
-        let cases = [settling(n, vat, changes), emptying(n, vat, changes)];
+        let cases = [settling(n, vat, units), emptying(n, vat, units)];
         cases
             .into_iter()
             .flat_map(move |case| short.map(|allowed| SweepList::new(case.clone(), allowed)))
@@ -72,10 +72,11 @@ fn allowances(case: Case) -> impl Iterator<Item = SweepList> {
 #[cfg(test)]
 mod tests {
     use super::*;
+    use crate::reference::Pass;
     use crate::side::{Reference, Side};
 
-    fn outcome(case: &Case, allowed: usize) -> (u64, u64, u64) {
-        let answer = case.answer(|n, slices| Reference.sweep(n, slices, allowed));
+    fn outcome(pass: Pass, case: &Case, allowed: usize) -> (u64, u64, u64) {
+        let answer = case.answer(|n, slices| Reference.sweep(pass, n, slices, allowed));
         let outcome = answer.outcome;
         (outcome.number, outcome.place, outcome.count)
     }
@@ -84,12 +85,21 @@ mod tests {
     fn counts_are_as_they_were_meant() {
         for (n, vat) in [(1, 1), (3, 2), (32, 32)] {
             let settled = settling(n, vat, 5);
-            assert_eq!(outcome(&settled, 5), (9, 0, 5));
-            assert_eq!(outcome(&settled, 6), (0, 0, 6));
-            assert_eq!(outcome(&settled, 7), (0, 0, 6));
+            let there = |case: &Case, allowed| outcome(Pass::There, case, allowed);
+            assert_eq!(there(&settled, 5), (9, 0, 5));
+            assert_eq!(there(&settled, 6), (0, 0, 6));
+            assert_eq!(there(&settled, 7), (0, 0, 6));
             let empty = emptying(n, vat, 5);
-            assert_eq!(outcome(&empty, 5), (9, 0, 5));
-            assert_eq!(outcome(&empty, 6), (7, vat as u64, 5));
+            assert_eq!(there(&empty, 5), (9, 0, 5));
+            assert_eq!(there(&empty, 6), (7, vat as u64, 5));
+            let back = |case: &Case, allowed| outcome(Pass::ThereAndBack, case, allowed);
+            for units in [5, 6] {
+                let settled = settling(n, vat, units);
+                assert_eq!(back(&settled, 3), (9, 0, 3));
+                assert_eq!(back(&settled, 4), (0, 0, 4));
+            }
+            assert_eq!(back(&empty, 2), (9, 0, 2));
+            assert_eq!(back(&empty, 3), (7, vat as u64, 2));
         }
     }
 }

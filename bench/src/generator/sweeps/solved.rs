@@ -90,7 +90,7 @@ fn around(random: &mut Random, balance: &System, weights: Fractions) -> SweepLis
     };
     SweepList {
         lent: lent(balance, &start),
-        allowed: allowances::for_list(random, balance),
+        calls: allowances::for_list(random, balance),
         solution: Some(solution),
     }
 }
@@ -117,7 +117,7 @@ mod tests {
     fn the_reference_loses_no_solution() {
         let mut random = Random::new(12);
         let lists = (0..30_000).map(|round| list(&mut random, 1 + round % 10));
-        let tally = compare(goals::of_sweep(), lists, u64::MAX, &Reference).unwrap();
+        let tally = compare(goals::of_sweeps(), lists, u64::MAX, &Reference).unwrap();
         assert!(tally.calls() > 30_000);
     }
 
