@@ -352,6 +352,9 @@ static void check_inside(KifwalebOutcome symmetric, const int64_t *box)
     for (size_t k = 0; k < 2 * call.n; k += 2)
         promised(around[k] <= box[k] && box[k + 1] <= around[k + 1],
                  "the box after each pass lies inside the ordinary one after as many sweeps");
+    if (symmetric.number == KIFWALEB_DONE && ordinary.number == KIFWALEB_DONE)
+        promised(memcmp(around, box, 2 * call.n * sizeof *box) == 0,
+                 "where both settle they leave the same box");
     boxes_inside++;
 }
 

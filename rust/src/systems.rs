@@ -119,14 +119,14 @@ pub fn sweep(n: usize, b_matrix: &[i64], b: &[i64], bounds: &mut [i64], allowed:
 /// always with the newest bounds, and is allowed and counted as one sweep.
 ///
 /// Unless the call is refused, the box after each pass lies inside the one that [`sweep`]
-/// leaves after as many sweeps. It can be refused with
-/// [`Refusal::Empty`](crate::Refusal::Empty) where `sweep` is not, since it comes further
-/// with as many passes; never the other way round.
+/// leaves after as many sweeps; where both settle they leave the same box. It can be
+/// refused with [`Refusal::Empty`](crate::Refusal::Empty) where `sweep` is not, since it
+/// comes further with as many passes; never the other way round.
 ///
-/// A pass takes about as long as two sweeps. It pays where milk runs against the numbering
-/// of the vats, as on the way back of a loop: there mostly half as many passes as sweeps
-/// settle a box, and in a long chain far fewer. Where most milk runs along the numbering,
-/// nearly as many are needed, and `sweep` takes about half the time.
+/// Where both settle they leave the same box, so the choice is one of time. A pass takes
+/// as long as two sweeps. It pays where most milk runs against the numbering of the vats:
+/// there about half as many passes settle a box. Where most runs along the numbering,
+/// `sweep` needs hardly more sweeps than this call needs passes, and so half the time.
 ///
 /// ```
 /// use kifwaleb::{symmetric_sweep, Outcome};
