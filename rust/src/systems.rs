@@ -119,9 +119,9 @@ pub fn sweep(n: usize, b_matrix: &[i64], b: &[i64], bounds: &mut [i64], allowed:
 /// always with the newest bounds, and is allowed and counted as one sweep.
 ///
 /// Unless the call is refused, the box after each pass lies inside the one that [`sweep`]
-/// leaves after as many sweeps; where both settle they leave the same box. It can be
-/// refused with [`Refusal::Empty`](crate::Refusal::Empty) where `sweep` is not, since it
-/// comes further with as many passes; never the other way round.
+/// leaves after as many sweeps. It can be refused with
+/// [`Refusal::Empty`](crate::Refusal::Empty) where `sweep` is not, since it comes further
+/// with as many passes; never the other way round.
 ///
 /// Where both settle they leave the same box, so the choice is one of time. A pass takes
 /// as long as two sweeps. It pays where most milk runs against the numbering of the vats:

@@ -9,11 +9,11 @@ use Rattle.integer.proofs.Linear.{linear, over}
 use Rattle.integer.proofs.Order.{trans, corners}
 use Rattle.integer.proofs.Rounding.{floor-low, floor-iff, ceil-high, ceil-iff}
 use Rattle.interval.specs.declared.Interval.{Interval}
-use Rattle.interval.specs.Interval.{scale, leastProduct, greatestProduct, exactSum, exactProduct, rounded, productAt, product, zero as nought}
+use Rattle.interval.specs.Interval.{scale, leastProduct, greatestProduct, exactSum, exactProduct, rounded, productAt, zero as nought}
 use Rattle.interval.proofs.Range.{scale-above}
 use Rattle.interval.proofs.Corners.{least-ind, greatest-ind, least-first, least-second, least-third, least-fourth, greatest-first, greatest-second, greatest-third, greatest-fourth}
 use Rattle.fraction.specs.Meaning.{Contains}
-use Rattle.fraction.proofs.Contains.{contains-refl}
+use Rattle.fraction.proofs.Contains.{contains-refl, contains-trans}
 use Rattle.inputs.specs.Place.{at}
 use Rattle.rows.proofs.Size.{rounded-order}
 use Rattle.rows.specs.Sum.{summed, singly, exactly, once}
@@ -70,54 +70,7 @@ module _ {x y u v : Interval} (h : Narrow x u) (k : Narrow y v) where
       (high-corner (lo-in .0) (lo-in .1) (lo-in′ .0) (lo-in′ .1)) (high-corner (lo-in .0) (lo-in .1) (hi-in′ .0) (hi-in′ .1))
       (high-corner (hi-in .0) (hi-in .1) (lo-in′ .0) (lo-in′ .1)) (high-corner (hi-in .0) (hi-in .1) (hi-in′ .0) (hi-in′ .1))
 
--- ---- e₁ counts parts of a unit, s of them in one; it lies inside v
-record Scaled (v e₁ : Interval) : Type 0 where
-  low : (v .lo *ℤ scale) ≤ℤ e₁ .lo
-  high : e₁ .hi ≤ℤ (v .hi *ℤ scale)
-
-scaled-sum : {v e₁ w e₂ : Interval} → Scaled v e₁ → Scaled w e₂ → Scaled (exactSum v w) (exactSum e₁ e₂)
-unfolding exactSum
-scaled-sum {v} {e₁} {w} {e₂} h k =
-    record { low = lows (v .lo) (w .lo) scale (e₁ .lo) (e₂ .lo) (h .low) (k .low); high = highs (v .hi) (w .hi) scale (e₁ .hi) (e₂ .hi) (h .high) (k .high) }
-  where
-    lows : (a b s u v : ℤ) → (a *ℤ s) ≤ℤ u → (b *ℤ s) ≤ℤ v → ((a +ℤ b) *ℤ s) ≤ℤ (u +ℤ v)
-    lows = over 5 _ (λ ρ. simp linear (omega arith))
-
-    highs : (a b s u v : ℤ) → u ≤ℤ (a *ℤ s) → v ≤ℤ (b *ℤ s) → (u +ℤ v) ≤ℤ ((a +ℤ b) *ℤ s)
-    highs = over 5 _ (λ ρ. simp linear (omega arith))
-
-scaled-product : {x y u v : Interval} → Narrow x u → Narrow y v → Scaled (product x y) (exactProduct u v)
-unfolding productAt rounded exactProduct
-scaled-product h k =
-    record { low = trans (floor-low _ scale scale-above) (least-rises h k); high = trans (greatest-falls h k) (ceil-high _ scale scale-above) }
-
-scaled-zero : Scaled nought nought
-scaled-zero = record { low = zeros scale; high = zeros′ scale }
-  where
-    zeros : (s : ℤ) → (pos 0 *ℤ s) ≤ℤ pos 0
-    zeros = over 1 _ (λ ρ. simp (linear, ρ) (omega arith))
-
-    zeros′ : (s : ℤ) → pos 0 ≤ℤ (pos 0 *ℤ s)
-    zeros′ = over 1 _ (λ ρ. simp (linear, ρ) (omega arith))
-
-scaled-rounded : {v e₁ : Interval} → Scaled v e₁ → Contains v (rounded scale e₁)
-unfolding rounded
-scaled-rounded h = record { low = floor-iff _ scale _ scale-above .1 (h .low); high = ceil-iff _ scale _ scale-above .1 (h .high) }
-
-module _ (m : List ℤ) (p : ℕ) (x : List ℤ) (q : ℕ) (m′ x′ : List ℤ) where
-  scaled-row : (d j : ℕ) (v e₁ : Interval) → ((i : ℕ) → i < j + d → Narrow (at m (p + i)) (at m′ (p + i))) → ((i : ℕ) → i < j + d → Narrow (at x (q + i)) (at x′ (q + i))) →
-      Scaled v e₁ → Scaled (summed m p x q d j v) (exactly m′ p x′ q d j e₁)
-  unfolding summed exactly
-  scaled-row zero j v e₁ h k e = e
-  scaled-row (suc d) j v e₁ h k e =
-      scaled-row d (j + 1) _ _ (λ i l. h i (omega arith)) (λ i l. k i (omega arith)) (scaled-sum e (scaled-product (h j (omega arith)) (k j (omega arith))))
-
-  pub once-inside : (d : ℕ) → ((i : ℕ) → i < d → Narrow (at m (p + i)) (at m′ (p + i))) → ((i : ℕ) → i < d → Narrow (at x (q + i)) (at x′ (q + i))) →
-      Contains (singly m p x q d) (once m′ p x′ q d)
-  unfolding singly once
-  once-inside d h k = scaled-rounded (scaled-row d 0 _ _ (λ i l. h i (omega arith)) (λ i l. k i (omega arith)) scaled-zero)
-
--- ---- a row of narrower intervals that is rounded once too
+-- ---- a row of narrower intervals, unrounded
 pub sum-contains : {u v w z : Interval} → Contains u w → Contains v z → Contains (exactSum u v) (exactSum w z)
 unfolding exactSum
 sum-contains {u} {v} {w} {z} h k =
@@ -130,11 +83,6 @@ product-contains : {x y u v : Interval} → Narrow x u → Narrow y v → Contai
 unfolding exactProduct
 product-contains h k = record { low = least-rises h k; high = greatest-falls h k }
 
-rounded-contains : {v w : Interval} → Contains v w → Contains (rounded scale v) (rounded scale w)
-unfolding rounded
-rounded-contains h =
-    scaled-rounded (record { low = trans (floor-low _ scale scale-above) (h .low); high = trans (h .high) (ceil-high _ scale scale-above) })
-
 module _ (m : List ℤ) (p : ℕ) (x : List ℤ) (q : ℕ) (m′ x′ : List ℤ) where
   exactly-contains : (d j : ℕ) (v w : Interval) → ((i : ℕ) → i < j + d → Narrow (at m (p + i)) (at m′ (p + i))) → ((i : ℕ) → i < j + d → Narrow (at x (q + i)) (at x′ (q + i))) →
       Contains v w → Contains (exactly m p x q d j v) (exactly m′ p x′ q d j w)
@@ -143,10 +91,58 @@ module _ (m : List ℤ) (p : ℕ) (x : List ℤ) (q : ℕ) (m′ x′ : List ℤ
   exactly-contains (suc d) j v w h k e =
       exactly-contains d (j + 1) _ _ (λ i l. h i (omega arith)) (λ i l. k i (omega arith)) (sum-contains e (product-contains (h j (omega arith)) (k j (omega arith))))
 
-  pub once-narrows : (d : ℕ) → ((i : ℕ) → i < d → Narrow (at m (p + i)) (at m′ (p + i))) → ((i : ℕ) → i < d → Narrow (at x (q + i)) (at x′ (q + i))) →
-      Contains (once m p x q d) (once m′ p x′ q d)
+-- ---- e₁ counts parts of a unit, s of them in one; it lies inside v
+record Scaled (v e₁ : Interval) : Type 0 where
+  low : (v .lo *ℤ scale) ≤ℤ e₁ .lo
+  high : e₁ .hi ≤ℤ (v .hi *ℤ scale)
+
+-- inside what it is rounded to, which is the narrowest such v
+scaled-itself : (e₁ : Interval) → Scaled (rounded scale e₁) e₁
+unfolding rounded
+scaled-itself e₁ = record { low = floor-low _ scale scale-above; high = ceil-high _ scale scale-above }
+
+scaled-rounded : {v e₁ : Interval} → Scaled v e₁ → Contains v (rounded scale e₁)
+unfolding rounded
+scaled-rounded h = record { low = floor-iff _ scale _ scale-above .1 (h .low); high = ceil-iff _ scale _ scale-above .1 (h .high) }
+
+scaled-sum : {v e₁ w e₂ : Interval} → Scaled v e₁ → Scaled w e₂ → Scaled (exactSum v w) (exactSum e₁ e₂)
+unfolding exactSum
+scaled-sum {v} {e₁} {w} {e₂} h k =
+    record { low = lows (v .lo) (w .lo) scale (e₁ .lo) (e₂ .lo) (h .low) (k .low); high = highs (v .hi) (w .hi) scale (e₁ .hi) (e₂ .hi) (h .high) (k .high) }
+  where
+    lows : (a b s u v : ℤ) → (a *ℤ s) ≤ℤ u → (b *ℤ s) ≤ℤ v → ((a +ℤ b) *ℤ s) ≤ℤ (u +ℤ v)
+    lows = over 5 _ (λ ρ. simp linear (omega arith))
+
+    highs : (a b s u v : ℤ) → u ≤ℤ (a *ℤ s) → v ≤ℤ (b *ℤ s) → (u +ℤ v) ≤ℤ ((a +ℤ b) *ℤ s)
+    highs = over 5 _ (λ ρ. simp linear (omega arith))
+
+scaled-zero : Scaled nought nought
+scaled-zero = record { low = zeros scale; high = zeros′ scale }
+  where
+    zeros : (s : ℤ) → (pos 0 *ℤ s) ≤ℤ pos 0
+    zeros = over 1 _ (λ ρ. simp (linear, ρ) (omega arith))
+
+    zeros′ : (s : ℤ) → pos 0 ≤ℤ (pos 0 *ℤ s)
+    zeros′ = over 1 _ (λ ρ. simp (linear, ρ) (omega arith))
+
+scaled-row : (m : List ℤ) (p : ℕ) (x : List ℤ) (q d j : ℕ) (v e₁ : Interval) → Scaled v e₁ → Scaled (summed m p x q d j v) (exactly m p x q d j e₁)
+unfolding summed exactly productAt
+scaled-row m p x q zero j v e₁ e = e
+scaled-row m p x q (suc d) j v e₁ e = scaled-row m p x q d (j + 1) _ _ (scaled-sum e (scaled-itself _))
+
+-- ---- a row of narrower intervals that is rounded once, inside the wider one rounded either way
+rounded-contains : {v w : Interval} → Contains v w → Contains (rounded scale v) (rounded scale w)
+rounded-contains {v} h = let r = scaled-itself v in scaled-rounded (record { low = trans (r .low) (h .low); high = trans (h .high) (r .high) })
+
+module _ (m : List ℤ) (p : ℕ) (x : List ℤ) (q : ℕ) (m′ x′ : List ℤ) (d : ℕ) (h : (i : ℕ) → i < d → Narrow (at m (p + i)) (at m′ (p + i)))
+    (k : (i : ℕ) → i < d → Narrow (at x (q + i)) (at x′ (q + i))) where
+  pub once-narrows : Contains (once m p x q d) (once m′ p x′ q d)
   unfolding once
-  once-narrows d h k = rounded-contains (exactly-contains d 0 _ _ (λ i l. h i (omega arith)) (λ i l. k i (omega arith)) (contains-refl nought))
+  once-narrows = rounded-contains (exactly-contains m p x q m′ x′ d 0 _ _ (λ i l. h i (omega arith)) (λ i l. k i (omega arith)) (contains-refl nought))
+
+  pub once-inside : Contains (singly m p x q d) (once m′ p x′ q d)
+  unfolding singly once
+  once-inside = contains-trans (scaled-rounded (scaled-row m p x q d 0 _ _ scaled-zero)) once-narrows
 
 -- ---- either row sum has its ends in sequence
 product-order : (x y : Interval) → exactProduct x y .lo ≤ℤ exactProduct x y .hi
