@@ -237,8 +237,8 @@ KifwalebOutcome kifwaleb_sweep(size_t n,
 /*
  * As kifwaleb_sweep, but there and back: one pass goes from vat 1 to n and then from
  * n to 1, always with the newest bounds, and is allowed and counted as one sweep.
- * Outcomes as there. DONE if settled: the last whole pass changed nothing, on neither
- * way. EMPTY comes on either way, and the count is of the whole passes before.
+ * Outcomes as there. DONE if settled: the last whole pass changed nothing, there or back.
+ * EMPTY comes there or back, and the count is of the whole passes before.
  * A pass takes as long as two sweeps. Unless the answer is EMPTY, the box lies inside
  * the one that kifwaleb_sweep leaves with as many sweeps allowed. EMPTY can come where
  * kifwaleb_sweep has not found it out yet, and comes wherever kifwaleb_sweep says so.
