@@ -18,7 +18,7 @@ pub enum Entry {
     System(Case),
     Eliminate(Call),
     StartBox,
-    /// The sweeps allowed.
+    /// Which of the two calls, and the sweeps allowed.
     Sweep(Pass, usize),
     Narrower(Boxes),
     Text(Vec<u8>),

@@ -19,48 +19,39 @@ Inv-loop n halves m r x₀ allowed count₀ x count =
 abbrev μ-loop : tie.MeasureT-loop
 μ-loop n halves m r x₀ allowed count₀ x count = allowed - count
 
--- src/internal/calls.rt:34:5
 loop-holds : tie.Need-loop-holds Inv-loop μ-loop
 loop-holds c = (omega arith, c .pre .0 .0, rw sub-zero (since-start _ _))
 
--- src/internal/calls.rt:35:15
 pass-once-requires : tie.Need-pass-once-requires Inv-loop μ-loop
 pass-once-requires c κs = let l = c .before .before in (l .loop .inv .1, l .before .pre .0 .1)
 
--- src/internal/calls.rt:36:31
 enum-known-i : tie.Need-enum-known-i Inv-loop μ-loop
 enum-known-i c = search needs
 
--- src/internal/calls.rt:37:17
 same-length : tie.Need-same-length Inv-loop μ-loop
 same-length c =
     let u = c .before .before .before .before in
     let l = u .before .before .before in
     u .pass-once .kept .1 .1 .1 .1 .0 ∙ l .loop .inv .1 .box ∙ sym (l .before .pre .0 .0 .box)
 
--- src/internal/calls.rt:37:17
 returns : tie.Need-returns Inv-loop μ-loop
 returns c =
     let u = c .before .before .before .before in
     let l = u .before .before .before in
     logged-empty (l .loop .inv .2) _ (sweeps-stopped _ _ _ _ _ (u .before .before .loop-test .taken) (was-empty (u .pass-once .ensures) (c .before .i .given .1)))
 
--- src/internal/calls.rt:42:29
 enum-known-changed : tie.Need-enum-known-changed Inv-loop μ-loop
 enum-known-changed c = search needs
 
--- src/internal/calls.rt:43:17
 add-count : tie.Need-add-count Inv-loop μ-loop
 add-count c = search needs
 
--- src/internal/calls.rt:45:21
 same-length-2 : tie.Need-same-length-2 Inv-loop μ-loop
 same-length-2 c =
     let u = c .before .before .before .before .before in
     let l = u .before .before .before in
     u .pass-once .kept .1 .1 .1 .1 .0 ∙ l .loop .inv .1 .box ∙ sym (l .before .pre .0 .0 .box)
 
--- src/internal/calls.rt:45:21
 returns-2 : tie.Need-returns-2 Inv-loop μ-loop
 returns-2 c =
     let u = c .before .before .before .before .before in
@@ -71,11 +62,9 @@ returns-2 c =
     (since-more (l .loop .inv .2) (sweeps-settled _ _ _ _ _ (u .before .before .loop-test .taken) (was-whole p g) (sym (was-flagged p g) ∙ not-true _ (c .if1 .taken))))
     refl
 
--- src/internal/calls.rt:34:5
 loop-less : tie.Need-loop-less Inv-loop μ-loop
 loop-less c = search needs
 
--- src/internal/calls.rt:34:5
 loop-again : tie.Need-loop-again Inv-loop μ-loop
 loop-again c =
     let u = c .before .before .before .before .before in
@@ -88,11 +77,9 @@ loop-again c =
       since-more (l .loop .inv .2) (sweeps-go _ _ _ _ _ h (was-whole p g) (sym (was-flagged p g) ∙ not-false _ (c .if1 .left))),
     )
 
--- src/internal/calls.rt:29:1
 same-length-3 : tie.Need-same-length-3 Inv-loop μ-loop
 same-length-3 c = let l = c .before in l .loop .inv .1 .box ∙ sym (l .before .pre .0 .0 .box)
 
--- src/internal/calls.rt:29:1
 returns-3 : tie.Need-returns-3 Inv-loop μ-loop
 returns-3 c = let l = c .before in logged-spent (l .loop .inv .2) (sweeps-spent _ _ _ _ _ (c .loop-test .left))
 
