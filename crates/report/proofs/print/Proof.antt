@@ -20,15 +20,19 @@ roomy c = sym (is-room (c .before .before)) ∙ c .enum-told .given .1
 abbrev report-of : tie.After-number → tie.After-report
 report-of n = n .before .before .before
 
+-- src/lib.rt:48:42
 slice-aggregate-lengths : tie.Need-slice-aggregate-lengths
 slice-aggregate-lengths c = search needs
 
+-- src/lib.rt:48:34
 lengths-requires : tie.Need-lengths-requires
 lengths-requires c κs = search needs
 
+-- src/lib.rt:48:23
 enum-known-outcome : tie.Need-enum-known-outcome
 enum-known-outcome c = search needs
 
+-- src/lib.rt:49:9
 returns : tie.Need-returns
 returns c =
     let o = c .before in
@@ -38,20 +42,25 @@ returns c =
 enum-told : tie.Need-enum-told
 enum-told c = search needs
 
+-- src/lib.rt:51:9
 report-requires : tie.Need-report-requires
 report-requires c κs = search needs
 
+-- src/lib.rt:53:9
 number-requires : tie.Need-number-requires
 number-requires c κs = search needs
 
+-- src/lib.rt:57:13
 put-refusal-requires : tie.Need-put-refusal-requires
 put-refusal-requires c κs =
     let w = report-of (c .before .before .before) in
     omega (arith, w .report .kept .1 .0, room-long (now (w .before .before .before .before .before .before .before .before .args .out)) (roomy (w .before .before)))
 
+-- src/lib.rt:44:1
 same-length : tie.Need-same-length
 same-length c = search needs
 
+-- src/lib.rt:44:1
 returns-2 : tie.Need-returns-2
 returns-2 c =
     let p = c .before .before in
@@ -62,9 +71,11 @@ returns-2 c =
     (not-reached (w .report .result .outcome) (λ z. b .before .if1 .taken (n .number .ensures ∙ z)) (λ z. b .if2 .taken (n .number .ensures ∙ z)))
     (p .put-refusal .ensures)
 
+-- src/lib.rt:44:1
 same-length-2 : tie.Need-same-length-2
 same-length-2 c = search needs
 
+-- src/lib.rt:44:1
 returns-3 : tie.Need-returns-3
 returns-3 c =
     let n = c .before .before in
@@ -72,9 +83,11 @@ returns-3 c =
     print-reached _ _ (roomy (w .before .before)) (w .report .result .outcome) (w .report .result .count) (w .report .last .1 .0) (w .report .ensures)
     (spent-reached (w .report .result .outcome) (λ z. c .before .if1 .taken (n .number .ensures ∙ z)) (sym (n .number .ensures) ∙ c .if2 .left))
 
+-- src/lib.rt:44:1
 same-length-3 : tie.Need-same-length-3
 same-length-3 c = search needs
 
+-- src/lib.rt:44:1
 returns-4 : tie.Need-returns-4
 returns-4 c =
     let n = c .before in

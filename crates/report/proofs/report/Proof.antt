@@ -32,30 +32,39 @@ is-room : (c : tie.After-lengths) → c .lengths .result ≡ room (now (start (c
 unfolding listed
 is-room c = c .lengths .ensures
 
+-- src/lib.rt:27:27
 slice-aggregate-read-text : tie.Need-slice-aggregate-read-text
 slice-aggregate-read-text c = search needs
 
+-- src/lib.rt:27:11
 read-text-requires : tie.Need-read-text-requires
 read-text-requires c κs = search needs
 
+-- src/lib.rt:28:26
 enum-known-h : tie.Need-enum-known-h
 enum-known-h c = search needs
 
+-- src/lib.rt:28:46
 slice-aggregate-lengths : tie.Need-slice-aggregate-lengths
 slice-aggregate-lengths c = search needs
 
+-- src/lib.rt:28:38
 lengths-requires : tie.Need-lengths-requires
 lengths-requires c κs = search needs
 
+-- src/lib.rt:30:21
 enum-told : tie.Need-enum-told
 enum-told c = search needs
 
+-- src/lib.rt:32:34
 slice-aggregate-put-balance : tie.Need-slice-aggregate-put-balance
 slice-aggregate-put-balance c = sym (stops (known (c .before .before .before .before .before .before .before)))
 
+-- src/lib.rt:32:52
 slice-aggregate-put-balance-2 : tie.Need-slice-aggregate-put-balance-2
 slice-aggregate-put-balance-2 c = search needs
 
+-- src/lib.rt:32:17
 put-balance-requires : tie.Need-put-balance-requires
 put-balance-requires c κs =
     let e = c .before .before .before in
@@ -64,15 +73,19 @@ put-balance-requires c κs =
     let w = known a in
     ((omega (arith, room-long (now (start a .args .out)) (sym (is-room l) ∙ e .enum-told .given .1)), omega (arith, stops w, w .short)), (w .some, w .few, a .before .before .before .read-text .kept .1 .0))
 
+-- src/lib.rt:34:24
 enum-known-outcome : tie.Need-enum-known-outcome
 enum-known-outcome c = search needs
 
+-- src/lib.rt:36:25
 enum-known-line : tie.Need-enum-known-line
 enum-known-line c = search needs
 
+-- src/lib.rt:23:1
 same-length : tie.Need-same-length
 same-length c = search needs
 
+-- src/lib.rt:23:1
 returns : tie.Need-returns
 returns c =
     let p = c .before .before in
@@ -82,6 +95,7 @@ returns c =
     p .put-balance .ensures ∙
     report-solved _ _ (sym (was-read a)) (sym (is-room l) ∙ e .enum-told .given .1)
 
+-- src/lib.rt:23:1
 returns-2 : tie.Need-returns-2
 returns-2 c =
     let o = c .before in
@@ -89,6 +103,7 @@ returns-2 c =
     let a = l .before .before .before in
     report-short _ _ (sym (was-read a)) (sym (is-room l) ∙ o .outcome .given .1)
 
+-- src/lib.rt:23:1
 returns-3 : tie.Need-returns-3
 returns-3 c =
     let a = c .before in

@@ -11,18 +11,23 @@ use Rattle.elimination.proofs.eliminate_balance.Reads as eliminate-balance-read
 use Rattle.outcome.proofs.Outcome.number.Reads as number-reads
 use Rattle.sweep.proofs.sweep.Reads as sweep-reads
 
+-- src/internal/calculation.rt:20:9
 eliminate-balance-requires : tie.Need-eliminate-balance-requires
 eliminate-balance-requires c κs = search needs
 
+-- src/internal/calculation.rt:21:8
 number-requires : tie.Need-number-requires
 number-requires c κs = search needs
 
+-- src/internal/calculation.rt:22:9
 sweep-requires : tie.Need-sweep-requires
 sweep-requires c κs = search needs
 
+-- src/internal/calculation.rt:22:9
 same-length : tie.Need-same-length
 same-length c = search needs
 
+-- src/internal/calculation.rt:22:9
 returns : tie.Need-returns
 returns c =
     let w = c .before in
@@ -31,9 +36,11 @@ returns c =
     let a = e .before .before .args in
     w .sweep .ensures ∙ calculation-swept (system (a .n) (now (a .matrix)) (now (a .right))) (now (a .bounds)) (e .eliminate-balance .result) (e .eliminate-balance .last .1 .1 .1 .0) (e .eliminate-balance .ensures) (sym (t .before .number .ensures) ∙ t .if1 .taken)
 
+-- src/internal/calculation.rt:14:1
 same-length-2 : tie.Need-same-length-2
 same-length-2 c = search needs
 
+-- src/internal/calculation.rt:14:1
 returns-2 : tie.Need-returns-2
 returns-2 c =
     let n = c .before in

@@ -13,23 +13,29 @@ use Rattle.report.proofs.internal.report.put_balance.Reads as reads
 use Rattle.report.proofs.internal.report.put_balance.Lts as lts
 use Rattle.report.proofs.internal.report.put_solved.Reads as put-solved-reads
 
+-- src/internal/report.rt:58:43
 mul-x : tie.Need-mul-x
 mul-x c = search needs
 
+-- src/internal/report.rt:58:34
 array-borrow-prefix-x : tie.Need-array-borrow-prefix-x
 array-borrow-prefix-x c = search needs
 
+-- src/internal/report.rt:58:34
 slice-aggregate-put-solved : tie.Need-slice-aggregate-put-solved
 slice-aggregate-put-solved c = sym (length-take-le _ _ (omega arith))
 
+-- src/internal/report.rt:58:5
 put-solved-requires : tie.Need-put-solved-requires
 put-solved-requires c κs =
     let a = c .before .before .before .before in
     (a .pre .0, (a .pre .1 .0, a .pre .1 .1, a .pre .1 .2, length-take-le _ _ (omega arith)))
 
+-- src/internal/report.rt:49:1
 same-length : tie.Need-same-length
 same-length c = search needs
 
+-- src/internal/report.rt:49:1
 returns : tie.Need-returns
 unfolding solved
 returns c =

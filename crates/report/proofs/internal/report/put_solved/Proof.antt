@@ -9,18 +9,23 @@ use Rattle.report.proofs.internal.report.put_solved.Lts as lts
 use Rattle.report.proofs.internal.calculation.calculate_from.Reads as calculate-from-reads
 use Rattle.report.proofs.internal.report.put_reached.Reads as put-reached-reads
 
+-- src/internal/report.rt:44:9
 calculate-from-requires : tie.Need-calculate-from-requires
 calculate-from-requires c κs = search needs
 
+-- src/internal/report.rt:45:5
 put-reached-requires : tie.Need-put-reached-requires
 put-reached-requires c κs = search needs
 
+-- src/internal/report.rt:36:1
 same-length : tie.Need-same-length
 same-length c = search needs
 
+-- src/internal/report.rt:36:1
 same-length-2 : tie.Need-same-length-2
 same-length-2 c = search needs
 
+-- src/internal/report.rt:36:1
 returns : tie.Need-returns
 returns c =
     let p = c .before .before in
