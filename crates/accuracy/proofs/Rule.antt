@@ -32,7 +32,7 @@ off-by {v} {a} {y} h k =
     go : (l u p q r t : ℤ) → pos 0 <ℤ q → pos 0 <ℤ t → (l *ℤ q) ≤ℤ p → r ≤ℤ (u *ℤ t) → (r *ℤ q -ℤ p *ℤ t) ≤ℤ ((u -ℤ l) *ℤ (q *ℤ t))
     go = over 6 _ (λ ρ m n h k. also (prod h (lt-le n)) (also (prod k (lt-le m)) (simp (linear, ρ) (omega arith))))
 
-held : {n : ℕ} {X : List ℤ} {x : ℕ → Fraction} → InBox n X x → Bounded n X x
+pub held : {n : ℕ} {X : List ℤ} {x : ℕ → Fraction} → InBox n X x → Bounded n X x
 held h = record { inside = h; close = λ j k y i. off-by (h .each j k) i }
 
 -- ---- the box that a list begins with

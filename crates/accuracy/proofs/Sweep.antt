@@ -61,7 +61,7 @@ and-nought b = record { holds = go (b .num) (b .den) }
     go = over 2 _ (λ ρ. simp (reading, ρ) (ring _ _ _ tt))
 
 -- ---- what holds a fraction is not empty
-held-not-empty : {A : Type 0} {v : Interval} {a : Fraction} → isEmpty v ≡ true → Inside v a → A
+pub held-not-empty : {A : Type 0} {v : Interval} {a : Fraction} → isEmpty v ≡ true → Inside v a → A
 unfolding isEmpty
 held-not-empty {v = v} e h = clashℤ (taken (v .hi) (v .lo) e) (in-order h)
 
@@ -98,7 +98,7 @@ module _ (sum : RowSum) (encloses : Encloses sum) (s : System) where
           go (no f) = rw (at-put-other X i j v f) old
 
   -- ---- the components of a list, from a box X that follows the one before the pass
-  along-follows : (is : List ℕ) → Below (s .size) is → {X₀ X : List ℤ} → length X ≡ 2 * s .size → Follows s X₀ X → OnPass s X₀ (along sum s is X)
+  pub along-follows : (is : List ℕ) → Below (s .size) is → {X₀ X : List ℤ} → length X ≡ 2 * s .size → Follows s X₀ X → OnPass s X₀ (along sum s is X)
   unfolding along
   along-follows [] b l f = f
   along-follows (i ∷ is) b {X₀} {X} l f =

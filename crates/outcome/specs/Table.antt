@@ -1,8 +1,8 @@
--- Document 01, Outcomes: the table, row by row; then the row that document 02, A2 adds.
+-- Document 01, Outcomes: the table, row by row; then the rows that document 02 adds, in A2 and A6.
 use Prim.Native.Nat.{ℕ}
 use Rattle.outcome.specs.declared.Outcome.{Outcome}
 use Rattle.outcome.specs.declared.Outcome.the-variants.{Done, Spent, Size, Length, Allowed, Ends}
-use Rattle.outcome.specs.declared.Outcome.the-variants.{ContainsZero, OutOfRange, Empty, Text, Sums}
+use Rattle.outcome.specs.declared.Outcome.the-variants.{ContainsZero, OutOfRange, Empty, Text, Sums, NotDue, NoComponent}
 
 -- what is returned, and the place returned
 pub record Row : Type 0 where
@@ -24,3 +24,5 @@ numberAndPlace (OutOfRange i) = row 6 i
 numberAndPlace (Empty i) = row 7 i
 numberAndPlace (Text line) = row 8 line
 numberAndPlace Sums = row 10 0
+numberAndPlace NotDue = row 19 0
+numberAndPlace NoComponent = row 20 0

@@ -1,7 +1,7 @@
 ghost use mathlib.Core.Path.{_≡_};
 ghost use Rattle.outcome.specs.Table.{numberAndPlace};
 
-// How a call ends: document 01, Outcomes, with the number that document 02, A2 adds. Each case carries the place that its row of the table names; numberAndPlace, in specs/, gives the numbers.
+// How a call ends: document 01, Outcomes, with the numbers that document 02 adds: 10 in A2, 19 and 20 in A6. Each case carries the place that its row of the table names; numberAndPlace, in specs/, gives the numbers.
 // The count of sweeps stands beside an outcome, not in it.
 pub enum Outcome {
     // done, or settled
@@ -25,6 +25,10 @@ pub enum Outcome {
     Text(usize),
     // neither every row sum nor every column sum of the magnitudes is below one
     Sums,
+    // nothing is loaded, or the half pass is out of turn
+    NotDue,
+    // a narrowed component outside 1 to n
+    NoComponent,
 }
 
 impl Outcome {
@@ -44,6 +48,8 @@ impl Outcome {
             Outcome::Empty(_) => 7,
             Outcome::Text(_) => 8,
             Outcome::Sums => 10,
+            Outcome::NotDue => 19,
+            Outcome::NoComponent => 20,
         }
     }
 
@@ -63,6 +69,8 @@ impl Outcome {
             Outcome::Empty(component) => component,
             Outcome::Text(line) => line,
             Outcome::Sums => 0,
+            Outcome::NotDue => 0,
+            Outcome::NoComponent => 0,
         }
     }
 }

@@ -11,7 +11,7 @@ use Rattle.inputs.specs.Code.{Sound}
 use Rattle.rows.specs.Sum.{exactly, once}
 use Rattle.rows.proofs.Size.{Small, zero-small, sum-small, exact-product-small, rounded-small}
 
-exactly-small : (m : List ℤ) (p : ℕ) (x : List ℤ) (q d j k : ℕ) (acc : Interval) → Sound m → Sound x → Small k acc → Small (k + 4000000000000000000 * d) (exactly m p x q d j acc)
+pub exactly-small : (m : List ℤ) (p : ℕ) (x : List ℤ) (q d j k : ℕ) (acc : Interval) → Sound m → Sound x → Small k acc → Small (k + 4000000000000000000 * d) (exactly m p x q d j acc)
 unfolding exactly
 exactly-small m p x q zero j k acc h g s = let e : k ≡ k + 4000000000000000000 * 0 = omega arith in subst (λ (l : ℕ). Small l acc) e s
 exactly-small m p x q (suc d) j k acc h g s =

@@ -58,16 +58,21 @@ put-narrows x i v room h j = go (ℕ-discrete j i)
     go (yes e) = rw (e, at-put-same x i v room) h
     go (no e) = rw (at-put-other x i j v e) (contains-refl (at x j))
 
--- what is not empty is an interval, and the box stays one of intervals
+-- what an interval has in common with any other, if anything, is an interval
+pub intersection-accepted : (u o : Interval) → acceptable o ≡ true → isEmpty (intersection u o) ≡ false → acceptable (intersection u o) ≡ true
+unfolding intersection
+intersection-accepted u o a e =
+    let s = is-sound o a in
+    let h = not-empty e in
+    let low = trans (s .lo-in .low) (le-max-right (u .lo) (o .lo)) in
+    let high = trans (min-le-right (u .hi) (o .hi)) (s .hi-in .high) in
+    sound-accepted _ (record { order = h; lo-in = record { low = low; high = trans h high }; hi-in = record { low = trans low h; high = high } })
+
+-- so the box stays one of intervals
 module _ (sum : RowSum) {n : ℕ} {m r x : List ℤ} (w : Ready n m r x) (i : ℕ) where
   component-accepted : isEmpty (component sum (system n m r) x i) ≡ false → acceptable (component sum (system n m r) x i) ≡ true
-  unfolding component intersection
-  component-accepted e =
-      let o = is-sound (at x i) (w .box-sound .each i) in
-      let h = not-empty e in
-      let low = trans (o .lo-in .low) (le-max-right _ (at x i .lo)) in
-      let high = trans (min-le-right _ (at x i .hi)) (o .hi-in .high) in
-      sound-accepted _ (record { order = h; lo-in = record { low = low; high = trans h high }; hi-in = record { low = trans low h; high = high } })
+  unfolding component
+  component-accepted e = intersection-accepted _ (at x i) (w .box-sound .each i) e
 
   pub ready-put : i < n → isEmpty (component sum (system n m r) x i) ≡ false → Ready n m r (put x i (component sum (system n m r) x i))
   ready-put h e =

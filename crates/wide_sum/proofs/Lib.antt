@@ -1,4 +1,5 @@
 pub mod Near
 pub mod Carry
 pub mod Lowered
+pub mod Joined
 pub mod Parts

@@ -19,7 +19,7 @@ use Rattle.wide_sum.specs.Code.{Near, Raised, Added, AddedBoth}
 use Rattle.wide_sum.proofs.Near.{moved-near, moved-fits}
 
 -- a number that is not negative, as a natural
-natural-is : (z : ℤ) → pos 0 ≤ℤ z → pos (natAbs z) ≡ z
+pub natural-is : (z : ℤ) → pos 0 ≤ℤ z → pos (natAbs z) ≡ z
 natural-is (pos n) h = refl
 natural-is (negsuc n) h = absurd (h .le)
 

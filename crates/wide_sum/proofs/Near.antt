@@ -12,7 +12,7 @@ use Rattle.wide_sum.specs.declared.Wide.{Wide}
 use Rattle.wide_sum.specs.declared.WideInterval.{WideInterval}
 use Rattle.wide_sum.specs.Code.{Near, NearBoth}
 
-near-more : {k l : ℕ} {w : Wide} → k ≤ l → Near k w → Near l w
+pub near-more : {k l : ℕ} {w : Wide} → k ≤ l → Near k w → Near l w
 near-more {k} {l} {w} h n =
     let b : pos k ≤ℤ pos l = record { le = le→leb k l h } in
     record { low = low (pos k) (pos l) (w .high) b (n .low); high = high (pos k) (pos l) (w .high) b (n .high) }

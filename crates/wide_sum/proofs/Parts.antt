@@ -21,7 +21,7 @@ use Rattle.wide_sum.specs.Wide.{held}
 use Rattle.wide_sum.specs.Code.{Near, Parted}
 use Rattle.wide_sum.proofs.Carry.{high-fits}
 
-natural-bound : {k b : ℕ} → k ≤ b → (pos 0 ≤ℤ pos k) × (pos k ≤ℤ pos b)
+pub natural-bound : {k b : ℕ} → k ≤ b → (pos 0 ≤ℤ pos k) × (pos k ≤ℤ pos b)
 natural-bound {k} {b} h = (record { le = le→leb 0 k (omega arith) }, record { le = le→leb k b h })
 
 -- a high word times k, and m, as the code has them

@@ -34,6 +34,15 @@ pub record AddedBoth (v : WideInterval) (p : Interval) (r : WideInterval) : Type
   pub is : heldBoth r ≡ exactSum (heldBoth v) p
   pub near : (k : ℕ) → NearBoth k v → NearBoth (k + 1) r
 
+-- r is v and w, both wide, and near enough to be rounded
+pub record Joined (v w r : Wide) : Type 0 where
+  pub is : held r ≡ held v +ℤ held w
+  pub near : Near 1_000 r
+
+pub record JoinedBoth (v w r : WideInterval) : Type 0 where
+  pub is : heldBoth r ≡ exactSum (heldBoth v) (heldBoth w)
+  pub near : NearBoth 1_000 r
+
 -- w in whole scales and a part
 pub record Parted (w : Wide) (r : Parts) : Type 0 where
   pub is : r .whole *ℤ scale +ℤ r .part ≡ held w

@@ -6,7 +6,7 @@ ghost use lib.IntN.{pos};
 ghost use lib.Signed.{_≤ℤ_, _<ℤ_};
 ghost use Rattle.interval.specs.Interval.{zero};
 ghost use Rattle.wide_sum.specs.Wide.{heldBoth};
-ghost use Rattle.wide_sum.specs.Code.{Near, NearBoth, Raised, Added, AddedBoth};
+ghost use Rattle.wide_sum.specs.Code.{Near, NearBoth, Raised, Added, AddedBoth, Joined, JoinedBoth};
 
 // −2^63, the lowest number there is: less it, a number below 0 is 0 or more. And 2^63, which is then left of 2^64.
 const LOWEST: i64 = -9_223_372_036_854_775_808;
@@ -85,5 +85,30 @@ pub fn added_both(acc: WideInterval, v: Interval) -> WideInterval
     WideInterval {
         lo: added(acc.lo, v.lo),
         hi: added(acc.hi, v.hi),
+    }
+}
+
+// v and w.
+fn joined(v: Wide, w: Wide) -> Wide
+    requires { ⌜ Near 900 v × Near 90 w ⌝ }
+    ensures { λ r. ⌜ Joined v w r ⌝ }
+{
+    let u = raised(v, w.low);
+    let high = u.high;
+    let more = w.high;
+    Wide {
+        high: high + more,
+        low: u.low,
+    }
+}
+
+// v and w, of which both are beyond 64 bits.
+pub fn joined_both(v: WideInterval, w: WideInterval) -> WideInterval
+    requires { ⌜ NearBoth 900 v × NearBoth 90 w ⌝ }
+    ensures { λ r. ⌜ JoinedBoth v w r ⌝ }
+{
+    WideInterval {
+        lo: joined(v.lo, w.lo),
+        hi: joined(v.hi, w.hi),
     }
 }

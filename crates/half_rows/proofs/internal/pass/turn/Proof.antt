@@ -1,0 +1,21 @@
+use borrow.Author.Needs.{needs}
+use Rattle.half_rows.specs.Code.{turn}
+use Rattle.half_rows.proofs.internal.pass.turn.Statement.{statement}
+use Rattle.half_rows.proofs.internal.pass.turn.Tie as tie
+
+add-result : tie.Need-add-result
+add-result c = search needs
+
+sub-result : tie.Need-sub-result
+sub-result c = search needs
+
+returns : tie.Need-returns
+unfolding turn
+returns c = rw (c .if1 .taken)
+
+returns-2 : tie.Need-returns-2
+unfolding turn
+returns-2 c = rw (c .if1 .left)
+
+pub turn-spec : {M : Type 1} → statement M
+turn-spec = tie.close (tie.spec add-result sub-result returns returns-2)

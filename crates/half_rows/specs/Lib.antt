@@ -1,0 +1,4 @@
+pub mod Rows
+pub mod State
+pub mod Operations
+pub mod Code

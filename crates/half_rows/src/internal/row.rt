@@ -1,0 +1,144 @@
+use inputs::Test;
+use inputs::internal::intervals;
+use inputs::internal::read;
+use interval::Interval;
+use interval::internal::intersection;
+use interval::internal::sum;
+use kept_sums::internal::read_sum;
+use kept_sums::internal::sum_ready;
+use rows::internal::exact_sum;
+use wide_sum::WideInterval;
+use wide_sum::internal::rounding::rounded;
+use wide_sum::internal::sum::joined_both;
+use wide_sum::internal::sum::nought;
+ghost use mathlib.Core.Path.{_≡_};
+ghost use mathlib.Core.Bool.{true};
+ghost use Prim.Native.Nat.{_+_, _*_, _≤_, _<_};
+ghost use lib.ListN.{length};
+ghost use Rattle.inputs.specs.declared.Test.the-variants.{Pass};
+ghost use Rattle.inputs.specs.Tests.{proper};
+ghost use Rattle.inputs.specs.System.{system};
+ghost use Rattle.inputs.specs.Code.{Sound};
+ghost use Rattle.kept_sums.specs.Kept.{sumAt, sumReady};
+ghost use Rattle.half_rows.specs.Rows.{first, beside, begin, side, joined, halfRow};
+ghost use Rattle.half_rows.specs.Code.{Shaped, sideOn, joinedOn, Stepped};
+
+// A row's new component, which may be empty, and the sum that was worked out; or numbers that no operation left.
+pub enum RowStep {
+    NoState,
+    Next(Interval, WideInterval),
+}
+
+// The components behind component i on its way: the first of them, and how many.
+pub fn first(back: bool, i: usize) -> usize
+    requires { ⌜ i < 32 ⌝ }
+    ensures { λ r. ⌜ r ≡ first back i ⌝ }
+{
+    if back {
+        return i + 1;
+    }
+    0
+}
+
+pub fn beside(back: bool, n: usize, i: usize) -> usize
+    requires { ⌜ (i < n) × (n ≤ 32) ⌝ }
+    ensures { λ r. ⌜ r ≡ beside back n i ⌝ }
+{
+    if back {
+        return n - (i + 1);
+    }
+    i
+}
+
+// The column in which the half row of row i begins.
+fn begin(back: bool, i: usize) -> usize
+    ensures { λ r. ⌜ r ≡ begin back i ⌝ }
+{
+    if back {
+        return i;
+    }
+    0
+}
+
+// The step of row i, of which the half row h and the kept sum are tested.
+fn summed(
+    n: usize,
+    back: bool,
+    i: usize,
+    h: &[i64],
+    r: &[i64],
+    kept: &[i64],
+    x: &[i64],
+) -> RowStep
+    requires { ⌜ Shaped n (now r) (now kept) (now x) × (i < n) ⌝ }
+    requires { ⌜ (length (now h) ≡ 2 * (beside back n i + 1)) × Sound (now h) × (sumReady (now kept) i ≡ true) ⌝ }
+    ensures { λ s. ⌜
+        Stepped Pass true (joinedOn back n (now (h .entry)) (now (r .entry)) (now (x .entry)) i (sumAt (now (kept .entry)) i))
+        (sideOn back n (now (h .entry)) (now (x .entry)) i) s
+        ⌝ }
+{
+    let from = begin(back, i);
+    let q = first(back, i);
+    let d = beside(back, n, i);
+    let side = exact_sum(nought(), h, q - from, x, q, d);
+    let known = exact_sum(side, h, i - from, x, i, 1);
+    let k = read_sum(kept, i);
+    let t = rounded(joined_both(known, k));
+    let b = read(r, i);
+    let old = read(x, i);
+    let v = sum(b, t);
+    RowStep::Next(intersection(v, old), side)
+}
+
+// The step of row i, from its half row h.
+fn on_half_row(
+    n: usize,
+    back: bool,
+    i: usize,
+    h: &[i64],
+    r: &[i64],
+    kept: &[i64],
+    x: &[i64],
+) -> RowStep
+    requires { ⌜ Shaped n (now r) (now kept) (now x) × (i < n) ⌝ }
+    requires { ⌜ length (now h) ≡ 2 * (beside back n i + 1) ⌝ }
+    ensures { λ s. ⌜
+        Stepped (proper (now (h .entry)) (beside back n i + 1) 0 0) (sumReady (now (kept .entry)) i)
+        (joinedOn back n (now (h .entry)) (now (r .entry)) (now (x .entry)) i (sumAt (now (kept .entry)) i))
+        (sideOn back n (now (h .entry)) (now (x .entry)) i) s
+        ⌝ }
+{
+    let d = beside(back, n, i);
+    let t = intervals(h, d + 1, 0);
+    if let Test::Fail(_) = t {
+        return RowStep::NoState;
+    }
+    if !sum_ready(kept, i) {
+        return RowStep::NoState;
+    }
+    summed(n, back, i, h, r, kept, x)
+}
+
+// The step of row i.
+pub fn step(
+    n: usize,
+    back: bool,
+    i: usize,
+    m: &[i64],
+    r: &[i64],
+    kept: &[i64],
+    x: &[i64],
+) -> RowStep
+    requires { ⌜ Shaped n (now r) (now kept) (now x) × (i < n) × (length (now m) ≡ 2 * (n * n)) ⌝ }
+    ensures { λ s. ⌜
+        Stepped (proper (halfRow back (system n (now (m .entry)) (now (r .entry))) i) (beside back n i + 1) 0 0) (sumReady (now (kept .entry)) i)
+        (joined back (system n (now (m .entry)) (now (r .entry))) (now (x .entry)) i (sumAt (now (kept .entry)) i))
+        (side back (system n (now (m .entry)) (now (r .entry))) (now (x .entry)) i) s
+        ⌝ }
+{
+    let from = begin(back, i);
+    let d = beside(back, n, i);
+    let p = i * n + from;
+    let e = p + (d + 1);
+    on_half_row(n, back, i, &m[2 * p..2 * e], r, kept, x)
+}

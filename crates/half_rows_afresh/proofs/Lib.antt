@@ -1,0 +1,16 @@
+pub mod Sums
+pub mod Kept
+pub mod Way
+pub mod Half
+pub mod Renewed
+pub mod Parts
+pub mod State
+pub mod Loaded
+pub mod Does
+pub mod Passes
+pub mod Narrowing
+pub mod Runs
+pub mod Box
+pub mod There
+pub mod Step
+pub mod Weights

@@ -1,0 +1,2 @@
+// What keeping the sums changes: nothing but the time.
+pub mod claims;
