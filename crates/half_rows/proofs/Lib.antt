@@ -6,3 +6,4 @@ pub mod State
 pub mod Loaded
 pub mod Ends
 pub mod Calls
+pub mod Shares

@@ -5,8 +5,12 @@ use mathlib.Core.List.{List, [], _∷_}
 use Prim.Native.Nat.{ℕ, suc, _+_, _-_, _*_, _≤_, _<_}
 use native.Mathlib.Omega.{arith}
 use native.Mathlib.Nat.{sub-zero}
-use lib.IntN.{ℤ}
+use native.Mathlib.Decide.{ℕ-discrete}
+use lib.IntN.{ℤ, pos}
 use lib.ListN.{length}
+use lib.Signed.{_≤ℤ_}
+use Rattle.integer.proofs.Order.{trans}
+use Rattle.integer.proofs.Extremes.{le-max-right}
 use Rattle.outcome.specs.declared.Outcome.{Outcome}
 use Rattle.outcome.specs.declared.Outcome.the-variants as outcome
 use Rattle.outcome.specs.Run.{Run, refused, done}
@@ -17,7 +21,7 @@ use Rattle.inputs.specs.declared.Test.the-variants.{Pass, Fail}
 use Rattle.inputs.specs.Place.{at, put}
 use Rattle.inputs.specs.Tests.{both, proper}
 use Rattle.inputs.specs.System.{System, system}
-use Rattle.inputs.proofs.Place.{length-put, sound-put}
+use Rattle.inputs.proofs.Place.{length-put, sound-put, at-put-same, at-put-other}
 use Rattle.wide_sum.specs.declared.WideInterval.{WideInterval}
 use Rattle.wide_sum.specs.Wide.{heldBoth}
 use Rattle.wide_sum.specs.Code.{NearBoth}
@@ -28,7 +32,7 @@ use Rattle.sweep.proofs.Pass.{intersection-accepted}
 use Rattle.half_rows.specs.declared.internal.row.RowStep.{RowStep}
 use Rattle.half_rows.specs.declared.internal.row.RowStep.the-variants.{NoState, Next}
 use Rattle.half_rows.specs.Rows.{Worked, worked, ofState, beside, halfRow, side, joined, components, halfAlong}
-use Rattle.half_rows.specs.Code.{Shaped, passes, Stepped, testedPass, turn}
+use Rattle.half_rows.specs.Code.{Shaped, NoneBelow, passes, Stepped, testedPass, turn}
 
 -- ---- the components from turn k on
 unfoldable pub rest : (back : Bool) → (n k : ℕ) → List ℕ
@@ -106,6 +110,15 @@ module _ {n : ℕ} {back : Bool} {m r K x₀ F₀ : List ℤ} {k : ℕ} {x F : L
 
       pub next-near : NearBoth 32 u
       next-near = answer .4
+
+      -- no component falls below 0
+      pub halfway-above : {y : List ℤ} → NoneBelow x → y ≡ put x i v → NoneBelow y
+      unfolding joined intersection
+      halfway-above o p = rw p (record { each = λ j. go j (ℕ-discrete j i) })
+        where
+          go : (j : ℕ) → Dec (j ≡ i) → pos 0 ≤ℤ at (put x i v) j .lo
+          go j (yes q) = rw (q, at-put-same x i v (omega (arith, w .shaped .box, below))) (rw (answer .2) (trans (o .each i) (le-max-right _ (at x i .lo))))
+          go j (no q) = rw (at-put-other x i j v q) (o .each j)
 
       pub halfway-stop : isEmpty v ≡ true → refused (outcome.Empty (i + 1)) ≡ halfAlong back sys K (components back n) x₀ F₀
       unfolding ofState

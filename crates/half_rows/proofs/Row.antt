@@ -95,15 +95,15 @@ half-length m p d h =
     rw l (length-take-le (2 * (d + 1)) (drop (2 * p) m) (rw (length-drop (2 * p) m) (omega arith)))
 
 -- ---- a row's answer
-pub no-test : {t : Test} {o : Outcome} → t ≡ Fail o → (b : Bool) → (passes t && b) ≡ false
-no-test e b = rw e
+pub not-tested : (t : Test) (b : Bool) → passes t ≡ false → (passes t && b) ≡ false
+not-tested t b e = rw e
 
 pub not-ready : (t : Test) {b : Bool} → b ≡ false → (passes t && b) ≡ false
 not-ready Pass e = e
 not-ready (Fail o) e = refl
 
-pub stepped-is : {t : Test} {b : Bool} (v u : Interval) → t ≡ Pass → b ≡ true → (s : RowStep) → Stepped Pass true v u s → Stepped t b v u s
-stepped-is {t} {b} v u e f s h = subst (λ (x : Test). Stepped x b v u s) (sym e) (subst (λ (y : Bool). Stepped Pass y v u s) (sym f) h)
+pub stepped-ready : (t : Test) {b : Bool} (v u : Interval) → b ≡ true → (s : RowStep) → Stepped t true v u s → Stepped t b v u s
+stepped-ready t {b} v u f s h = subst (λ (y : Bool). Stepped t y v u s) (sym f) h
 
 pub stepped-half : (back : Bool) (sys : System) (X : List ℤ) (i : ℕ) → i < sys .size → (b : Bool) (k : Interval) (s : RowStep) → {h : List ℤ} → h ≡ halfRow back sys i
     → Stepped (proper h (beside back (sys .size) i + 1) 0 0) b (joinedOn back (sys .size) h (sys .right) X i k) (sideOn back (sys .size) h X i) s
@@ -114,12 +114,12 @@ stepped-half back sys X i l b k s e h =
     (subst (λ (g : List ℤ). Stepped (proper g (beside back (sys .size) i + 1) 0 0) b (joinedOn back (sys .size) g (sys .right) X i k) (sideOn back (sys .size) g X i) s) e h))
 
 -- ---- the sums, as the code has them
-module _ (back : Bool) (n i : ℕ) (h r X : List ℤ) {f q d : ℕ} (ef : f ≡ begin back i) (eq : q ≡ first back i) (ed : d ≡ beside back n i) where
-  pub side-is : {z w : Interval} → z ≡ zeroInterval → w ≡ exactly h (q - f) X q d 0 z → w ≡ sideOn back n h X i
+module _ (back : Bool) (n i : ℕ) (h r X : List ℤ) {f : ℕ} (ef : f ≡ begin back i) where
+  pub side-is : {q d : ℕ} {z w : Interval} → q ≡ first back i → d ≡ beside back n i → z ≡ zeroInterval → w ≡ exactly h (q - f) X q d 0 z → w ≡ sideOn back n h X i
   unfolding sideOn
-  side-is e g = rw (g, e, ef, eq, ed)
+  side-is eq ed e g = rw (g, e, ef, eq, ed)
 
-  pub joined-is : (k : Interval) {w u j t b o v c : Interval} → w ≡ sideOn back n h X i → u ≡ exactly h (i - f) X i 1 0 w → j ≡ exactSum u k → t ≡ rounded scale j
-      → b ≡ at r i → o ≡ at X i → v ≡ exactSum b t → c ≡ intersection v o → c ≡ joinedOn back n h r X i k
+  pub joined-is : (k : Interval) {w u c : Interval} → w ≡ sideOn back n h X i → u ≡ exactly h (i - f) X i 1 0 w
+      → c ≡ intersection (exactSum (at r i) (rounded scale (exactSum u k))) (at X i) → c ≡ joinedOn back n h r X i k
   unfolding joinedOn
-  joined-is k e1 e2 e3 e4 e5 e6 e7 e8 = rw (e8, e7, e4, e3, e2, e1, e5, e6, ef)
+  joined-is k e g j = rw (j, g, e, ef)

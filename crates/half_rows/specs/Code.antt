@@ -2,23 +2,28 @@
 use mathlib.Core.Path.{_≡_}
 use mathlib.Core.Bool.{Bool, true, false, cond, _&&_}
 use mathlib.Core.List.{List}
-use Prim.Native.Nat.{ℕ, _+_, _-_, _*_, _≤_}
-use lib.IntN.{ℤ, _-ℤ_}
+use Prim.Native.Nat.{ℕ, _+_, _-_, _*_, _≤_, _<_}
+use lib.IntN.{ℤ, pos, _-ℤ_}
 use lib.ListN.{length}
+use lib.Signed.{_≤ℤ_}
 use Rattle.outcome.specs.declared.Outcome.the-variants as outcome
 use Rattle.outcome.specs.Run.{Run, refused, done, andThen}
 use Rattle.interval.specs.declared.Interval.{Interval}
 use Rattle.interval.specs.Interval as interval
-use Rattle.interval.specs.Interval.{ends, scale, exactSum, exactProduct, rounded, intersection}
+use Rattle.interval.specs.Interval.{ends, scale, acceptable, exactSum, exactProduct, rounded, intersection}
 use Rattle.inputs.specs.declared.Test.{Test}
 use Rattle.inputs.specs.declared.Test.the-variants.{Pass, Fail}
 use Rattle.inputs.specs.Place.{at}
 use Rattle.inputs.specs.Tests.{both, proper}
 use Rattle.inputs.specs.System.{System}
 use Rattle.inputs.specs.Code.{Sound}
+use Rattle.wide_sum.specs.declared.WideInterval.{WideInterval}
 use Rattle.wide_sum.specs.Wide.{heldBoth}
 use Rattle.wide_sum.specs.Code.{NearBoth}
 use Rattle.rows.specs.Sum.{exactly}
+use Rattle.rows.specs.Code.{Summed}
+use Rattle.half_rows.specs.declared.internal.tested.Tested.{Tested}
+use Rattle.half_rows.specs.declared.internal.tested.Tested.the-variants.{Ill, Sum}
 use Rattle.half_rows.specs.declared.internal.row.RowStep.{RowStep}
 use Rattle.half_rows.specs.declared.internal.row.RowStep.the-variants.{NoState, Next}
 use Rattle.half_rows.specs.declared.internal.pass.Half.{Half}
@@ -35,6 +40,35 @@ pub record Shaped (n : ℕ) (r K X : List ℤ) : Type 0 where
   pub right-sound : Sound r
   pub box-sound : Sound X
 
+-- ---- products of shares that are tested on the way
+-- of the d shares of h from position p on, all are intervals; or one of them is none
+abbrev pub AllShares : (h : List ℤ) (p d : ℕ) → Type 0
+AllShares h p d = (j : ℕ) → j < d → acceptable (at h (p + j)) ≡ true
+
+pub record NoShare (h : List ℤ) (p d : ℕ) : Type 0 where
+  pub place : ℕ
+  pub below : place < d
+  pub none : acceptable (at h (p + place)) ≡ false
+
+abbrev pub SumTested : (acc : WideInterval) (h : List ℤ) (p : ℕ) (x : List ℤ) (q d : ℕ) → Tested → Type 0
+SumTested acc h p x q d Ill = NoShare h p d
+SumTested acc h p x q d (Sum s) = AllShares h p d × Summed acc h p x q d s
+
+-- the same of a way that is tried first, and may say nothing
+abbrev pub SumAbove : (acc : WideInterval) (h : List ℤ) (p : ℕ) (x : List ℤ) (q d : ℕ) → Tested → Type 0
+SumAbove acc h p x q d Ill = Unit {0}
+SumAbove acc h p x q d (Sum s) = AllShares h p d × Summed acc h p x q d s
+
+-- two shares that are intervals and not below 0
+pub record PairAbove (g : List ℤ) : Type 0 where
+  pub shares : Sound g
+  pub first : pos 0 ≤ℤ at g 0 .lo
+  pub second : pos 0 ≤ℤ at g 1 .lo
+
+-- no component is below 0
+pub record NoneBelow (x : List ℤ) : Type 0 where
+  pub each : (j : ℕ) → pos 0 ≤ℤ at x j .lo
+
 -- ---- one row, from its half row h: the side behind it, and the new component
 unfoldable pub sideOn : (back : Bool) → (n : ℕ) → (h X : List ℤ) → (i : ℕ) → Interval
 sideOn back n h X i = exactly h (first back i - begin back i) X (first back i) (beside back n i) 0 interval.zero
@@ -42,6 +76,12 @@ sideOn back n h X i = exactly h (first back i - begin back i) X (first back i) (
 unfoldable pub joinedOn : (back : Bool) → (n : ℕ) → (h r X : List ℤ) → (i : ℕ) → (kept : Interval) → Interval
 joinedOn back n h r X i k =
     intersection (exactSum (at r i) (rounded scale (exactSum (exactly h (i - begin back i) X i 1 0 (sideOn back n h X i)) k))) (at X i)
+
+-- the side behind it is summed: its shares are intervals
+pub record SideSummed (back : Bool) (n : ℕ) (h X : List ℤ) (i : ℕ) (w : WideInterval) : Type 0 where
+  pub shares : AllShares h (first back i - begin back i) (beside back n i)
+  pub is : heldBoth w ≡ sideOn back n h X i
+  pub near : NearBoth 32 w
 
 abbrev pub passes : Test → Bool
 passes Pass = true

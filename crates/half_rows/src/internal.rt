@@ -5,3 +5,4 @@ pub mod operations;
 pub mod pass;
 pub mod row;
 pub mod state;
+pub mod tested;

@@ -19,6 +19,8 @@ use Rattle.inputs.specs.Place.{at, put, cell}
 use Rattle.inputs.specs.Tests.{both, need, proper}
 use Rattle.inputs.specs.Code.{Sound}
 use Rattle.inputs.specs.System.{System}
+use Rattle.inputs.proofs.Tests.{proper-all}
+use Rattle.half_rows.proofs.Row.{at-part}
 use Rattle.rows.specs.Sum.{once}
 use Rattle.kept_sums.specs.Kept.{putSum}
 use Rattle.kept_sums.proofs.Kept.{length-put-sum}
@@ -31,25 +33,8 @@ use Rattle.half_rows_afresh.proofs.Kept.{Kept, AllKept, kept-put-same, 
 use Rattle.half_rows_afresh.proofs.Way.{left, turn, Ahead, Passed, left-all, left-none, passed-all, passed-none, left-next, turn-below, turn-ahead, ahead-before, passed-before, ahead-unread, passed-unread}
 
 -- ---- the shares of half a row pass their test
-proper-yes : (t : List ℤ) (d p from : ℕ) → ((k : ℕ) → k < d → acceptable (at t (p + k)) ≡ true) → proper t d p from ≡ Pass
-unfolding proper need both
-proper-yes t zero p from h = refl
-proper-yes t (suc d) p from h =
-    let e : p + 0 ≡ p = omega arith in
-    let a : acceptable (at t p) ≡ true = rw e at (h 0 (omega arith)) in
-    rw a (proper-yes t d (p + 1) from (λ k l. let f : p + suc k ≡ p + 1 + k = omega arith in rw f at (h (suc k) (omega arith))))
-
 pub sound-proper : (t : List ℤ) → Sound t → (d p from : ℕ) → proper t d p from ≡ Pass
-sound-proper t h d p from = proper-yes t d p from (λ k l. h .each (p + k))
-
-at-part : (t : List ℤ) (c d k : ℕ) → k < d → at (part t (2 * c) (2 * d)) k ≡ at t (c + k)
-unfolding at
-at-part t c d k h =
-    let e : 2 * c + 2 * k ≡ 2 * (c + k) = omega arith in
-    let f : 2 * c + (2 * k + 1) ≡ 2 * (c + k) + 1 = omega arith in
-    same-ends _ _
-    (getD-take (2 * d) _ (2 * k) (pos 0) (omega arith) ∙ getD-drop (2 * c) t (2 * k) (pos 0) ∙ rw e)
-    (getD-take (2 * d) _ (2 * k + 1) (pos 0) (omega arith) ∙ getD-drop (2 * c) t (2 * k + 1) (pos 0) ∙ rw f)
+sound-proper t h d p from = proper-all t d p from (λ k l. h .each (p + k))
 
 row-proper : (back : Bool) (s : System) (i : ℕ) → Sound (s .matrix) → proper (halfRow back s i) (beside back (s .size) i + 1) 0 0 ≡ Pass
 unfolding halfRow

@@ -18,7 +18,7 @@ use Rattle.inputs.specs.Place.{at, put, cell}
 use Rattle.inputs.specs.System.{System}
 use Rattle.inputs.proofs.Place.{at-put-same, at-put-other}
 use Rattle.rows.specs.Sum.{exactly, once}
-use Rattle.rows.proofs.Exact.{sum-assoc}
+use Rattle.rows.proofs.Exact.{sum-assoc, exactly-parts, exactly-shift}
 use Rattle.sweep.specs.Pass.{component}
 use Rattle.half_rows.specs.Rows.{first, beside, side, joined, exchanged}
 
@@ -63,25 +63,6 @@ module _ (m : List ℤ) (p : ℕ) (x : List ℤ) (q : ℕ) where
       let v = exactProduct (at m (p + j)) (at x (q + j)) in
       exactly-from d (j + 1) (exactSum acc v) ∙ sum-assoc acc v _
       ∙ ap (exactSum acc) (sym (exactly-from d (j + 1) (exactSum interval.zero v) ∙ rw (nought-sum v)))
-
-  -- one part after the other
-  exactly-parts : (d e j : ℕ) (acc : Interval) → exactly m p x q (d + e) j acc ≡ exactly m p x q e (j + d) (exactly m p x q d j acc)
-  unfolding exactly
-  exactly-parts zero e j acc = let f : j + 0 ≡ j = omega arith in rw (zero-add e, f)
-  exactly-parts (suc d) e j acc =
-      let f : suc d + e ≡ suc (d + e) = omega arith in
-      let g : j + suc d ≡ j + 1 + d = omega arith in
-      rw (f, g) (exactly-parts d e (j + 1) _)
-
-  -- counted from a later place
-  exactly-shift : (k d j : ℕ) (acc : Interval) → exactly m (p + k) x (q + k) d j acc ≡ exactly m p x q d (k + j) acc
-  unfolding exactly
-  exactly-shift k zero j acc = refl
-  exactly-shift k (suc d) j acc =
-      let f : p + k + j ≡ p + (k + j) = omega arith in
-      let g : q + k + j ≡ q + (k + j) = omega arith in
-      let h : k + (j + 1) ≡ k + j + 1 = omega arith in
-      rw (f, g) (exactly-shift k d (j + 1) _ ∙ rw h)
 
   -- a component that is not read
   exactly-other : (r : ℕ) (w : Interval) (d j : ℕ) (acc : Interval) → ((l : ℕ) → l < d → q + (j + l) ≢ r)

@@ -50,7 +50,7 @@ unfolding at
 at-past t p h = same-ends _ _ (List·getD-eq-default t (pos 0) h) (List·getD-eq-default t (pos 0) (omega arith))
 
 -- a slice whose intervals were tested
-zero-accepted : acceptable zeroInterval ≡ true
+pub zero-accepted : acceptable zeroInterval ≡ true
 unfolding acceptable inRange within lowest highest
 zero-accepted = refl
 

@@ -20,7 +20,7 @@ use Rattle.inputs.specs.Place.{at}
 use Rattle.inputs.specs.Tests.{both, need, sized, lengths, proper}
 use Rattle.inputs.specs.Code.{listed}
 
-never : {A : Type 0} (o : Outcome) → Fail o ≡ Pass → A
+pub never : {A : Type 0} (o : Outcome) → Fail o ≡ Pass → A
 never o e = let z : _≡_ {A = ℕ} 0 1 = cc in absurd (omega arith)
 
 pub both-pass : (s t : Test) → both s t ≡ Pass → (s ≡ Pass) × (t ≡ Pass)
@@ -116,3 +116,12 @@ proper-each t (suc d) p from e zero h =
 proper-each t (suc d) p from e (suc k) h =
     let f : p + suc k ≡ p + 1 + k = omega arith in
     rw f (proper-each t d (p + 1) from (both-pass _ (proper t d (p + 1) from) e .1) k (omega arith))
+
+-- and all of them pass it
+pub proper-all : (t : List ℤ) (d p from : ℕ) → ((k : ℕ) → k < d → acceptable (at t (p + k)) ≡ true) → proper t d p from ≡ Pass
+unfolding proper need both
+proper-all t zero p from h = refl
+proper-all t (suc d) p from h =
+    let e : p + 0 ≡ p = omega arith in
+    let a : acceptable (at t p) ≡ true = rw e at (h 0 (omega arith)) in
+    rw a (proper-all t d (p + 1) from (λ k l. let f : p + suc k ≡ p + 1 + k = omega arith in rw f at (h (suc k) (omega arith))))

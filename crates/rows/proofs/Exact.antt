@@ -1,8 +1,9 @@
 -- Turns of the loop that sums a row exactly; the products left are d − j.
-use mathlib.Core.Path.{_≡_, sym, ap, _∙_}
+use mathlib.Core.Path.{_≡_, refl, sym, ap, _∙_}
 use mathlib.Core.List.{List}
-use Prim.Native.Nat.{ℕ, suc, _+_, _-_, _≤_, _<_}
+use Prim.Native.Nat.{ℕ, zero, suc, _+_, _-_, _≤_, _<_}
 use native.Mathlib.Omega.{arith}
+use native.Mathlib.Nat.{zero-add}
 use lib.IntN.{ℤ, _+ℤ_}
 use Rattle.integer.proofs.Linear.{reading, ring, over}
 use Rattle.interval.specs.declared.Interval.{Interval}
@@ -54,3 +55,29 @@ module _ (m : List ℤ) (p : ℕ) (x : List ℤ) (q d : ℕ) where
       let g : q + (j + 1) ≡ q + j + 1 = omega arith in
       exactly-go j acc (omega arith) ∙ exactly-go (j + 1) _ h
       ∙ rw (e, f, g, two-products m (p + j) x (q + j) acc) (ap (exactly m p x q (d - (j + 2)) (j + 2)) (sum-assoc _ _ _))
+
+-- ---- parts of a row
+module _ (m : List ℤ) (p : ℕ) (x : List ℤ) (q : ℕ) where
+  -- one part after the other
+  pub exactly-parts : (d e j : ℕ) (acc : Interval) → exactly m p x q (d + e) j acc ≡ exactly m p x q e (j + d) (exactly m p x q d j acc)
+  unfolding exactly
+  exactly-parts zero e j acc = let f : j + 0 ≡ j = omega arith in rw (zero-add e, f)
+  exactly-parts (suc d) e j acc =
+      let f : suc d + e ≡ suc (d + e) = omega arith in
+      let g : j + suc d ≡ j + 1 + d = omega arith in
+      rw (f, g) (exactly-parts d e (j + 1) _)
+
+  -- counted from a later place
+  pub exactly-shift : (k d j : ℕ) (acc : Interval) → exactly m (p + k) x (q + k) d j acc ≡ exactly m p x q d (k + j) acc
+  unfolding exactly
+  exactly-shift k zero j acc = refl
+  exactly-shift k (suc d) j acc =
+      let f : p + k + j ≡ p + (k + j) = omega arith in
+      let g : q + k + j ≡ q + (k + j) = omega arith in
+      let h : k + (j + 1) ≡ k + j + 1 = omega arith in
+      rw (f, g) (exactly-shift k d (j + 1) _ ∙ rw h)
+
+  pub exactly-later : (d e : ℕ) (acc : Interval) → exactly m p x q (d + e) 0 acc ≡ exactly m (p + d) x (q + d) e 0 (exactly m p x q d 0 acc)
+  exactly-later d e acc =
+      let f : 0 + d ≡ d + 0 = omega arith in
+      exactly-parts d e 0 acc ∙ ap (λ (j : ℕ). exactly m p x q e j (exactly m p x q d 0 acc)) f ∙ sym (exactly-shift d e 0 _)

@@ -1,4 +1,4 @@
-mod next;
+pub mod next;
 
 use crate::internal::next::next_one;
 use crate::internal::next::next_two;

@@ -8,6 +8,10 @@
 //     S allowed       sweeps
 //     Y allowed       sweeps there and back
 //     X               the start box from B and b
+//     L len           loads B, b and the box into the first len numbers of a state: 2,436 numbers, all 0 at first, which stand between the cases
+//     U len           the half pass up on the first len numbers of the state
+//     D len           the half pass down
+//     Z len vat lo hi narrows a vat by [lo, hi]; printed for it, and for L, U and D, are the 2n numbers from place 2 of the state on, none if n is above 32
 //   C n f s           the narrower of two boxes: n, their lengths, and so many numbers; printed are the length and the numbers of the one handed back
 //   T length          a text: a line end, and so many bytes; then its cases:
 //     R m r           its numbers, into slices of these lengths; n stands for the count
@@ -17,6 +21,7 @@
 //     F from byte     the first such byte in it, from a place on, which may lie past its end: its place, or 'none'
 mod boxes;
 mod file;
+mod halves;
 mod lines;
 mod steps;
 mod systems;
@@ -60,7 +65,7 @@ fn main() {
         os::fail(b"cases");
         return;
     }
-    let mut cases = [0u8; 786432];
+    let mut cases = [0u8; 1048576];
     let size = io::read_full(fd, &mut cases);
     run_all(&cases[..size]);
 }

@@ -4,6 +4,8 @@ use crate::file::fill;
 use crate::file::read_head;
 use crate::file::read_natural;
 use crate::file::room;
+use crate::halves;
+use crate::halves::is_half;
 use crate::lines;
 use elimination::eliminate;
 use elimination::eliminate_balance;
@@ -11,11 +13,13 @@ use start_box::start_box;
 use sweep::Swept;
 use sweep::sweep;
 use sweep::symmetric_sweep;
+ghost use Prim.Native.Nat.{_≤_};
+ghost use lib.ListN.{length};
 
 fn is_call(letter: u8) -> bool {
     match letter {
         b'A' | b'B' | b'S' | b'X' | b'Y' => true,
-        _ => false,
+        _ => is_half(letter),
     }
 }
 
@@ -61,7 +65,7 @@ fn answer(
     sweep(n, matrix, right, bounds, allowed)
 }
 
-// One call on a system, and its line: how the call ended, and all that the box holds after it.
+// One call on a system, and its line: how the call ended, and all that the box holds after it. Calls on the state have lines of their own.
 fn call(
     file: &[u8],
     h: Head,
@@ -69,7 +73,13 @@ fn call(
     matrix: &[i64],
     right: &[i64],
     bounds: &mut [i64],
-) -> usize {
+    state: &mut [i64],
+) -> usize
+    requires { ⌜ 66 ≤ length (now state) ⌝ }
+{
+    if is_half(h.letter) {
+        return halves::call(file, h, n, matrix, right, bounds, state);
+    }
     let allowed = allowance(file, h);
     let r = answer(h.letter, n, matrix, right, bounds, allowed.value as usize);
     let o = r.outcome;
@@ -83,7 +93,7 @@ fn call(
     allowed.at
 }
 
-// The calls on a system. Each has the box as the one before left it.
+// The calls on a system. Each has the box and the state as the one before left them.
 fn calls(
     file: &[u8],
     from: usize,
@@ -91,19 +101,22 @@ fn calls(
     matrix: &[i64],
     right: &[i64],
     bounds: &mut [i64],
-) -> usize {
+    state: &mut [i64],
+) -> usize
+    requires { ⌜ 66 ≤ length (now state) ⌝ }
+{
     let mut at = from;
     for k in 0..file.len() {
         let h = read_head(file, at);
         if !is_call(h.letter) {
             return at;
         }
-        at = call(file, h, n, matrix, right, bounds);
+        at = call(file, h, n, matrix, right, bounds, state);
     }
     at
 }
 
-// Reads the numbers of a system, and runs its calls.
+// Reads the numbers of a system, and runs its calls, with a state that is all 0.
 fn filled(
     file: &[u8],
     from: usize,
@@ -115,7 +128,8 @@ fn filled(
     let at = fill(file, from, matrix);
     let at = fill(file, at, right);
     let at = fill(file, at, bounds);
-    calls(file, at, n, matrix, right, bounds)
+    let mut state = [0i64; 2436];
+    calls(file, at, n, matrix, right, bounds, &mut state)
 }
 
 // A system: n, the lengths of matrix, right side and box, and the numbers of all three. Its calls follow.

@@ -18,7 +18,7 @@ use Rattle.interval.proofs.Range.{scale-above}
 use Rattle.wide_sum.specs.declared.Wide.{Wide}
 use Rattle.wide_sum.specs.declared.internal.rounding.Parts.{Parts}
 use Rattle.wide_sum.specs.Wide.{held}
-use Rattle.wide_sum.specs.Code.{Near, Parted}
+use Rattle.wide_sum.specs.Code.{Near, Parted, Handy}
 use Rattle.wide_sum.proofs.Carry.{high-fits}
 
 pub natural-bound : {k b : ℕ} → k ≤ b → (pos 0 ≤ℤ pos k) × (pos k ≤ℤ pos b)
@@ -96,13 +96,20 @@ module _ (a b s : ℤ) (h : pos 0 <ℤ s) where
       low : (a c b s : ℤ) → (c *ℤ s -ℤ s) <ℤ b → ((a +ℤ c) *ℤ s -ℤ s) <ℤ (a *ℤ s +ℤ b)
       low = over 4 _ (λ ρ. simp linear (omega arith))
 
--- what the parts come to fits
-rounded-fits : {w : Wide} {r : Parts} → Parted w r → (f : ℤ) → (f *ℤ pos 1000000 -ℤ pos 1000000) <ℤ r .part → r .part <ℤ (f *ℤ pos 1000000 +ℤ pos 1000000) → SFits w64 (r .whole +ℤ f)
-rounded-fits {w} {r} p f l u = go (r .whole) (r .part) f (p .whole-small .0) (p .whole-small .1) (p .part-small .0) (p .part-small .1) l u
+-- what the parts come to is far from the ends of 64 bits
+rounded-handy : {w : Wide} {r : Parts} → Parted w r → (f : ℤ) → (f *ℤ pos 1000000 -ℤ pos 1000000) <ℤ r .part → r .part <ℤ (f *ℤ pos 1000000 +ℤ pos 1000000) → Handy (r .whole +ℤ f)
+rounded-handy {w} {r} p f l u = let b = go (r .whole) (r .part) f (p .whole-small .0) (p .whole-small .1) (p .part-small .0) (p .part-small .1) l u in record { low = b .0; high = b .1 }
   where
     go : (a b f : ℤ) → negℤ (pos 20020000000000000) ≤ℤ a → a ≤ℤ pos 20020000000000000 → negℤ (pos 2002000000) ≤ℤ b → b ≤ℤ pos 2002000000 →
-        (f *ℤ pos 1000000 -ℤ pos 1000000) <ℤ b → b <ℤ (f *ℤ pos 1000000 +ℤ pos 1000000) → SFits w64 (a +ℤ f)
-    go = over 3 _ (λ ρ. simp (fits64, linear, ρ) (omega arith))
+        (f *ℤ pos 1000000 -ℤ pos 1000000) <ℤ b → b <ℤ (f *ℤ pos 1000000 +ℤ pos 1000000)
+        → (negℤ (pos 30000000000000000) ≤ℤ (a +ℤ f)) × ((a +ℤ f) ≤ℤ pos 30000000000000000)
+    go = over 3 _ (λ ρ. simp (linear, ρ) (omega arith))
+
+handy-fits : {z : ℤ} → Handy z → SFits w64 z
+handy-fits {z} h = go z (h .low) (h .high)
+  where
+    go : (z : ℤ) → negℤ (pos 30000000000000000) ≤ℤ z → z ≤ℤ pos 30000000000000000 → SFits w64 z
+    go = over 1 _ (λ ρ. simp (fits64, linear, ρ) (omega arith))
 
 module _ {w : Wide} {r : Parts} (p : Parted w r) where
   whole-plain : toZ w64 (ofZ w64 (r .whole)) ≡ r .whole
@@ -117,16 +124,16 @@ module _ {w : Wide} {r : Parts} (p : Parted w r) where
       go : (a : ℤ) → negℤ (pos 2002000000) ≤ℤ a → a ≤ℤ pos 2002000000 → SFits w64 a
       go = over 1 _ (λ ρ. simp (fits64, linear, ρ) (omega arith))
 
-  floor-fits : SFits w64 (r .whole +ℤ floorDiv (r .part) scale)
+  floor-handy : Handy (r .whole +ℤ floorDiv (r .part) scale)
   unfolding scale
-  floor-fits = rounded-fits p (floorDiv (r .part) (pos 1000000)) (less (floorDiv (r .part) (pos 1000000)) (r .part) (floor-low (r .part) (pos 1000000) scale-above)) (floor-high (r .part) (pos 1000000) scale-above)
+  floor-handy = rounded-handy p (floorDiv (r .part) (pos 1000000)) (less (floorDiv (r .part) (pos 1000000)) (r .part) (floor-low (r .part) (pos 1000000) scale-above)) (floor-high (r .part) (pos 1000000) scale-above)
     where
       less : (f b : ℤ) → (f *ℤ pos 1000000) ≤ℤ b → (f *ℤ pos 1000000 -ℤ pos 1000000) <ℤ b
       less = over 2 _ (λ ρ. simp (linear, ρ) (omega arith))
 
-  ceil-fits : SFits w64 (r .whole +ℤ ceilDiv (r .part) scale)
+  ceil-handy : Handy (r .whole +ℤ ceilDiv (r .part) scale)
   unfolding scale
-  ceil-fits = rounded-fits p (ceilDiv (r .part) (pos 1000000)) (ceil-low (r .part) (pos 1000000) scale-above) (more (ceilDiv (r .part) (pos 1000000)) (r .part) (ceil-high (r .part) (pos 1000000) scale-above))
+  ceil-handy = rounded-handy p (ceilDiv (r .part) (pos 1000000)) (ceil-low (r .part) (pos 1000000) scale-above) (more (ceilDiv (r .part) (pos 1000000)) (r .part) (ceil-high (r .part) (pos 1000000) scale-above))
     where
       more : (c b : ℤ) → b ≤ℤ (c *ℤ pos 1000000) → b <ℤ (c *ℤ pos 1000000 +ℤ pos 1000000)
       more = over 2 _ (λ ρ. simp (linear, ρ) (omega arith))
@@ -134,13 +141,19 @@ module _ {w : Wide} {r : Parts} (p : Parted w r) where
   -- as the code has them, with what the division answered
   module _ {f : ℤ} (e : toZ w64 (ofZ w64 f) ≡ f) where
     pub floor-safe : f ≡ floorDiv (toZ w64 (ofZ w64 (r .part))) scale → SFits w64 (toZ w64 (ofZ w64 (r .whole)) +ℤ toZ w64 (ofZ w64 f))
-    floor-safe g = rw (whole-plain, e, g, part-plain) floor-fits
+    floor-safe g = rw (whole-plain, e, g, part-plain) (handy-fits floor-handy)
 
-    pub floor-read : f ≡ floorDiv (toZ w64 (ofZ w64 (r .part))) scale → toZ w64 (ofZ w64 (toZ w64 (ofZ w64 (r .whole)) +ℤ toZ w64 (ofZ w64 f))) ≡ floorDiv (held w) scale
-    floor-read g = toZ-ofZ w64 _ (floor-safe g) ∙ rw (whole-plain, e, g, part-plain) (floor-whole (r .whole) (r .part) scale scale-above ∙ ap (λ z. floorDiv z scale) (p .is))
+    floor-is : f ≡ floorDiv (toZ w64 (ofZ w64 (r .part))) scale → toZ w64 (ofZ w64 (toZ w64 (ofZ w64 (r .whole)) +ℤ toZ w64 (ofZ w64 f))) ≡ floorDiv (held w) scale
+    floor-is g = toZ-ofZ w64 _ (floor-safe g) ∙ rw (whole-plain, e, g, part-plain) (floor-whole (r .whole) (r .part) scale scale-above ∙ ap (λ z. floorDiv z scale) (p .is))
+
+    pub floor-read : f ≡ floorDiv (toZ w64 (ofZ w64 (r .part))) scale → (toZ w64 (ofZ w64 (toZ w64 (ofZ w64 (r .whole)) +ℤ toZ w64 (ofZ w64 f))) ≡ floorDiv (held w) scale) × Handy (toZ w64 (ofZ w64 (toZ w64 (ofZ w64 (r .whole)) +ℤ toZ w64 (ofZ w64 f))))
+    floor-read g = (floor-is g, rw (toZ-ofZ w64 _ (floor-safe g), whole-plain, e, g, part-plain) floor-handy)
 
     pub ceil-safe : f ≡ ceilDiv (toZ w64 (ofZ w64 (r .part))) scale → SFits w64 (toZ w64 (ofZ w64 (r .whole)) +ℤ toZ w64 (ofZ w64 f))
-    ceil-safe g = rw (whole-plain, e, g, part-plain) ceil-fits
+    ceil-safe g = rw (whole-plain, e, g, part-plain) (handy-fits ceil-handy)
 
-    pub ceil-read : f ≡ ceilDiv (toZ w64 (ofZ w64 (r .part))) scale → toZ w64 (ofZ w64 (toZ w64 (ofZ w64 (r .whole)) +ℤ toZ w64 (ofZ w64 f))) ≡ ceilDiv (held w) scale
-    ceil-read g = toZ-ofZ w64 _ (ceil-safe g) ∙ rw (whole-plain, e, g, part-plain) (ceil-whole (r .whole) (r .part) scale scale-above ∙ ap (λ z. ceilDiv z scale) (p .is))
+    ceil-is : f ≡ ceilDiv (toZ w64 (ofZ w64 (r .part))) scale → toZ w64 (ofZ w64 (toZ w64 (ofZ w64 (r .whole)) +ℤ toZ w64 (ofZ w64 f))) ≡ ceilDiv (held w) scale
+    ceil-is g = toZ-ofZ w64 _ (ceil-safe g) ∙ rw (whole-plain, e, g, part-plain) (ceil-whole (r .whole) (r .part) scale scale-above ∙ ap (λ z. ceilDiv z scale) (p .is))
+
+    pub ceil-read : f ≡ ceilDiv (toZ w64 (ofZ w64 (r .part))) scale → (toZ w64 (ofZ w64 (toZ w64 (ofZ w64 (r .whole)) +ℤ toZ w64 (ofZ w64 f))) ≡ ceilDiv (held w) scale) × Handy (toZ w64 (ofZ w64 (toZ w64 (ofZ w64 (r .whole)) +ℤ toZ w64 (ofZ w64 f))))
+    ceil-read g = (ceil-is g, rw (toZ-ofZ w64 _ (ceil-safe g), whole-plain, e, g, part-plain) ceil-handy)

@@ -34,6 +34,11 @@ pub record AddedBoth (v : WideInterval) (p : Interval) (r : WideInterval) : Type
   pub is : heldBoth r ≡ exactSum (heldBoth v) p
   pub near : (k : ℕ) → NearBoth k v → NearBoth (k + 1) r
 
+-- what is rounded is far from the ends of 64 bits, so that units can be added
+pub record Handy (z : ℤ) : Type 0 where
+  pub low : negℤ (pos 30_000_000_000_000_000) ≤ℤ z
+  pub high : z ≤ℤ pos 30_000_000_000_000_000
+
 -- r is v and w, both wide, and near enough to be rounded
 pub record Joined (v w r : Wide) : Type 0 where
   pub is : held r ≡ held v +ℤ held w

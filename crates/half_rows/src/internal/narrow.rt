@@ -80,7 +80,7 @@ pub fn renew(
     ensures { λ b. ⌜ (
         (r : List ℤ)
         → renewedOf b (now (sums .exit)) ≡ renew (system n (now (m .entry)) r) v old new d from (now (sums .entry))
-    ) ⌝ }
+        ) ⌝ }
 {
     for i in from..from + d {
         if !renew_row(n, m, v, old, new, i, sums) {

@@ -92,7 +92,16 @@ fn narrow_to(
     let old = read(x, v);
     let i = first(back, v);
     let d = beside(back, n, v);
-    if !renew(n, &state[MATRIX..MATRIX + 2 * (n * n)], v, old, new, i, d, sums) {
+    if !renew(
+        n,
+        &state[MATRIX..MATRIX + 2 * (n * n)],
+        v,
+        old,
+        new,
+        i,
+        d,
+        sums,
+    ) {
         return Outcome::NotDue;
     }
     write(x, v, new);

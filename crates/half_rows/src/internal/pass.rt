@@ -1,5 +1,6 @@
 use crate::internal::row::RowStep;
 use crate::internal::row::step;
+use crate::internal::tested::all_above;
 use inputs::Test;
 use inputs::internal::intervals;
 use inputs::internal::write;
@@ -47,9 +48,10 @@ pub fn half_pass(
         halfAlong back (system n (now (m .entry)) (now (r .entry))) (now (kept .entry)) (components back n) (now (x .entry)) (now (sums .entry))
         ⌝ }
 {
+    let above = all_above(x, n);
     for k in 0..n {
         let i = turn(back, n, k);
-        match step(n, back, i, m, r, kept, x) {
+        match step(n, back, above, i, m, r, kept, x) {
             RowStep::NoState => {
                 return Half::NoState;
             }

@@ -22,7 +22,7 @@ returns c = search needs
 
 -- by a lemma whose arguments are all written: a search goes through the whole array, for which the stack is too small
 slice-aggregate-read-full : tie.Need-slice-aggregate-read-full
-slice-aggregate-read-full c = sym (length-replicate {0} {A = ℕ} 786432 0)
+slice-aggregate-read-full c = sym (length-replicate {0} {A = ℕ} 1048576 0)
 
 read-full-requires : tie.Need-read-full-requires
 read-full-requires c κs = search needs

@@ -7,7 +7,7 @@ ghost use mathlib.Core.Path.{_≡_};
 ghost use Rattle.integer.specs.Rounding.{floorDiv, ceilDiv};
 ghost use Rattle.interval.specs.Interval.{scale, rounded};
 ghost use Rattle.wide_sum.specs.Wide.{held, heldBoth};
-ghost use Rattle.wide_sum.specs.Code.{Near, NearBoth, Parted};
+ghost use Rattle.wide_sum.specs.Code.{Near, NearBoth, Parted, Handy};
 
 const SCALE: u64 = Interval::SCALE as u64;
 
@@ -36,7 +36,7 @@ fn parted(w: Wide) -> Parts
 // Rounded to units, down and up.
 fn floor(w: Wide) -> i64
     requires { ⌜ Near 1_000 w ⌝ }
-    ensures { λ r. ⌜ r ≡ floorDiv (held w) scale ⌝ }
+    ensures { λ r. ⌜ (r ≡ floorDiv (held w) scale) × Handy r ⌝ }
 {
     let p = parted(w);
     let f = floor_div(p.part, Interval::SCALE);
@@ -45,7 +45,7 @@ fn floor(w: Wide) -> i64
 
 fn ceiling(w: Wide) -> i64
     requires { ⌜ Near 1_000 w ⌝ }
-    ensures { λ r. ⌜ r ≡ ceilDiv (held w) scale ⌝ }
+    ensures { λ r. ⌜ (r ≡ ceilDiv (held w) scale) × Handy r ⌝ }
 {
     let p = parted(w);
     let c = ceil_div(p.part, Interval::SCALE);
@@ -55,7 +55,7 @@ fn ceiling(w: Wide) -> i64
 // Rounded outward to units.
 pub fn rounded(v: WideInterval) -> Interval
     requires { ⌜ NearBoth 1_000 v ⌝ }
-    ensures { λ r. ⌜ r ≡ rounded scale (heldBoth v) ⌝ }
+    ensures { λ r. ⌜ (r ≡ rounded scale (heldBoth v)) × Handy (r .lo) × Handy (r .hi) ⌝ }
 {
     let lo = floor(v.lo);
     let hi = ceiling(v.hi);

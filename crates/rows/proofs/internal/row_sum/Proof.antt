@@ -25,7 +25,7 @@ returns : tie.Need-returns
 unfolding once
 returns c =
     let s = c .before .before .before .args in
-    c .rounded .ensures ∙ ap (rounded scale) (c .before .exact-sum .ensures .is ∙ ap (exactly (s .m .now) (s .p) (s .x .now) (s .q) (s .d) 0) (c .before .before .nought .ensures .0))
+    c .rounded .ensures .0 ∙ ap (rounded scale) (c .before .exact-sum .ensures .is ∙ ap (exactly (s .m .now) (s .p) (s .x .now) (s .q) (s .d) 0) (c .before .before .nought .ensures .0))
 
 pub row-sum-spec : {M : Type 1} → statement M
 row-sum-spec = tie.close (tie.spec nought-requires exact-sum-requires rounded-requires returns)

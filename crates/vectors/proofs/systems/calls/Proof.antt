@@ -6,10 +6,11 @@ use Rattle.vectors.proofs.systems.calls.Statement.{statement}
 use Rattle.vectors.proofs.systems.calls.Tie as tie
 
 abbrev Inv-loop : tie.InvT-loop
-Inv-loop file from n matrix right bounds₀ at₀ k₀ k-end bounds at k = length bounds ≡ length bounds₀
+Inv-loop file from n matrix right bounds₀ state₀ at₀ k₀ k-end bounds state at k =
+    (length bounds ≡ length bounds₀) × (length state ≡ length state₀)
 
 abbrev μ-loop : tie.MeasureT-loop
-μ-loop file from n matrix right bounds₀ at₀ k₀ k-end bounds at k = length file - k
+μ-loop file from n matrix right bounds₀ state₀ at₀ k₀ k-end bounds state at k = length file - k
 
 loop-holds : tie.Need-loop-holds Inv-loop μ-loop
 loop-holds c = search needs
@@ -22,6 +23,9 @@ is-call-requires c κs = search needs
 
 same-length : tie.Need-same-length Inv-loop μ-loop
 same-length c = search needs
+
+same-length-2 : tie.Need-same-length-2 Inv-loop μ-loop
+same-length-2 c = search needs
 
 returns : tie.Need-returns Inv-loop μ-loop
 returns c = search needs
@@ -38,8 +42,11 @@ loop-less c = search needs
 loop-again : tie.Need-loop-again Inv-loop μ-loop
 loop-again c = search needs
 
-same-length-2 : tie.Need-same-length-2 Inv-loop μ-loop
-same-length-2 c = search needs
+same-length-3 : tie.Need-same-length-3 Inv-loop μ-loop
+same-length-3 c = search needs
+
+same-length-4 : tie.Need-same-length-4 Inv-loop μ-loop
+same-length-4 c = search needs
 
 returns-2 : tie.Need-returns-2 Inv-loop μ-loop
 returns-2 c = search needs
@@ -54,10 +61,12 @@ calls-spec =
     read-head-requires
     is-call-requires
     same-length
+    same-length-2
     returns
     call-requires
     add-k
     loop-less
     loop-again
-    same-length-2
+    same-length-3
+    same-length-4
     returns-2)

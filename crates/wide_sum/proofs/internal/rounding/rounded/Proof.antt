@@ -15,7 +15,12 @@ ceiling-requires c κs = search needs
 returns : tie.Need-returns
 unfolding rounded heldBoth
 returns c =
-    λ i. record { lo = (plain _ (c .before .floor .ok) ∙ c .before .floor .ensures) i; hi = (plain _ (c .ceiling .ok) ∙ c .ceiling .ensures) i }
+    let f = plain _ (c .before .floor .ok) in
+    let g = plain _ (c .ceiling .ok) in (
+      λ i. record { lo = (f ∙ c .before .floor .ensures .0) i; hi = (g ∙ c .ceiling .ensures .0) i },
+      rw f (c .before .floor .ensures .1),
+      rw g (c .ceiling .ensures .1),
+    )
 
 pub rounded-spec : {M : Type 1} → statement M
 rounded-spec = tie.close (tie.spec floor-requires ceiling-requires returns)
