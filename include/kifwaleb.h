@@ -5,8 +5,9 @@
  * makes. It is for x86-64 Linux.
  *
  * THE INTERFACE IS NOT FROZEN. A later version adds a slice of load-cell
- * readings to the two eliminations, the start box and both sweep calls. Header and
- * archive must come from the same version: C does not notice if they do not.
+ * readings to the two eliminations, the start box, both sweep calls and the load of
+ * half rows. Header and archive must come from the same version: C does not notice
+ * if they do not.
  *
  * Numbers are counts of units of one millionth: of a whole for shares, of a
  * tonne (so one gram) for weights. An interval is two of them, lower end then
@@ -29,7 +30,8 @@
  *   without 'const'. For a mapped file this means other processes too, and that
  *   nobody shortens it.
  *
- * No call allocates memory, waits, or keeps anything for the next call. Give a
+ * No call allocates memory or waits, and the archive keeps nothing for the next
+ * call: what the calls kifwaleb_half_... keep lies in a slice of the caller's. Give a
  * thread that calls at least 128 kB of stack: kifwaleb_report, which takes the most,
  * takes about 38 kB, and the rest is for the thread itself and the C library.
  */
@@ -58,6 +60,11 @@ extern "C" {
 /* The bytes of a lent sheet: exactly so many. */
 #define KIFWALEB_SHEET_LENGTH 2048
 
+/* The numbers of a state of half rows, exactly so many, and where in it the box
+ * begins. */
+#define KIFWALEB_HALF_LENGTH 2434
+#define KIFWALEB_HALF_BOX 2
+
 /* What 'number' says. All but DONE and SPENT are refusals. */
 enum KifwalebNumber {
     /* Done, or settled; the result is written. Place 0. */
@@ -69,7 +76,7 @@ enum KifwalebNumber {
     KIFWALEB_LENGTH = 2,
     /* An interval has its ends out of sequence or out of the range. The place is
      * the first such interval, counted from 0 through matrix, right side and
-     * start box; in a single step the operand, 0 or 1. */
+     * start box; in a single step the operand, 0 or 1; of a weighed interval 0. */
     KIFWALEB_ENDS = 3,
     /* The sweeps allowed are 0 or above 10,000. Place 0. */
     KIFWALEB_ALLOWED = 4,
@@ -79,8 +86,8 @@ enum KifwalebNumber {
     /* A result is out of the range. The place is the row, after the swaps so far; in
      * a single step and for a start box it is 0. */
     KIFWALEB_OUT_OF_RANGE = 6,
-    /* The start box holds no solution. The place is the vat at which that was
-     * found. */
+    /* The start box, or the box of a state, holds no solution, or none within a
+     * weighed interval. The place is the vat at which that was found. */
     KIFWALEB_EMPTY = 7,
     /* The text is not as described. Only kifwaleb_report returns it. The place is
      * the first faulty line, or 0 if the text has more than 65,536 bytes. */
@@ -90,7 +97,13 @@ enum KifwalebNumber {
     KIFWALEB_SPENT = 9,
     /* Neither do all rows of the shares' magnitudes come to less than one, nor do all
      * columns. Only kifwaleb_start_box returns it. Place 0. */
-    KIFWALEB_SUMS = 10
+    KIFWALEB_SUMS = 10,
+    /* Nothing is loaded, or a half pass is out of turn. Only the calls
+     * kifwaleb_half_... return it. Place 0. */
+    KIFWALEB_NOT_DUE = 19,
+    /* The vat to be narrowed is none from 1 to n. Only kifwaleb_half_narrow returns
+     * it. Place 0. */
+    KIFWALEB_NO_VAT = 20
 };
 
 /* What kifwaleb_narrower returns. These are no outcome numbers: they name a box. */
@@ -110,7 +123,8 @@ typedef struct KifwalebStep {
 } KifwalebStep;
 
 /* What any other call but kifwaleb_narrower answers. The count is of whole sweeps,
- * or of the bytes of a sheet; it is 0 for an elimination and for a start box. */
+ * or of the bytes of a sheet; it is 0 for an elimination, for a start box and on half
+ * rows. */
 typedef struct KifwalebOutcome {
     uint64_t number;
     uint64_t place;
@@ -250,6 +264,62 @@ KifwalebOutcome kifwaleb_symmetric_sweep(size_t n,
                                          const int64_t *b, size_t b_len,
                                          int64_t *bounds, size_t bounds_len,
                                          size_t allowed);
+
+/*
+ * The calls kifwaleb_half_... do the pass there and back of kifwaleb_symmetric_sweep by
+ * halves, one a call, with about half as many products: for each vat the exact sums left
+ * and right of the diagonal are kept from one half to the next. Before either half the box
+ * can be read, and a vat narrowed by what a scale says of it.
+ * All that is kept lies in the state, KIFWALEB_HALF_LENGTH numbers of the caller's. Nothing
+ * is loaded while all of them are 0, nor in a slice of another length. From
+ * KIFWALEB_HALF_BOX on it has the 2*n numbers of the box, to be read; the rest is for these
+ * calls alone. A state may be copied, also back, and set to 0. Of a state with other
+ * numbers than these calls left in it nothing is promised but that each call returns, with
+ * one of its outcomes. Each state stands for itself: several can be in use at once.
+ *
+ * This call loads a state with n, B, b and a start box, as for kifwaleb_sweep, and needs
+ * none of them later. It replaces whatever the state held, which can be anything that is
+ * set. The start box may not be the one within the state: lend a copy. Afterwards the half
+ * pass up is due.
+ * DONE, or else the first of
+ *   NOT_DUE, if the state has not KIFWALEB_HALF_LENGTH numbers;
+ *   SIZE;
+ *   LENGTH, the place says which slice;
+ *   ENDS, the place counts through matrix, right side and start box.
+ * A refusal leaves the state as it was, and the count is 0, here and in the next three.
+ */
+KifwalebOutcome kifwaleb_half_load(int64_t *state, size_t state_len, size_t n,
+                                   const int64_t *b_matrix, size_t b_matrix_len,
+                                   const int64_t *b, size_t b_len,
+                                   const int64_t *bounds, size_t bounds_len);
+
+/*
+ * The half pass up, from vat 1 to n, on the box of the state. Afterwards the half pass
+ * down is due. From a load on, and as long as no vat is narrowed, k times up and down leave
+ * the box that kifwaleb_symmetric_sweep leaves with k allowed.
+ * DONE, or else the first of
+ *   NOT_DUE, if nothing is loaded or the other half pass is due;
+ *   EMPTY with the vat. This half pass is then still due.
+ */
+KifwalebOutcome kifwaleb_half_up(int64_t *state, size_t state_len);
+
+/*
+ * The half pass down, from vat n to 1. Afterwards the half pass up is due.
+ * Outcomes as for the half pass up.
+ */
+KifwalebOutcome kifwaleb_half_down(int64_t *state, size_t state_len);
+
+/*
+ * Narrows one vat, counted from 1, by a weighed interval: the vat's bounds become what
+ * they have in common with it. Before either half pass, which stays due.
+ * DONE, also if nothing changes, or else the first of
+ *   NOT_DUE, if nothing is loaded;
+ *   NO_VAT, if the vat is 0 or above n;
+ *   ENDS with place 0;
+ *   EMPTY with the vat, if there is nothing in common.
+ */
+KifwalebOutcome kifwaleb_half_narrow(int64_t *state, size_t state_len,
+                                     size_t vat, int64_t lo, int64_t hi);
 
 /*
  * Which of two boxes has the smaller sum of widths, a width being the upper end less

@@ -1,5 +1,5 @@
 /*
- * What both fuzzers need: slices whose surroundings are watched, intervals out
+ * What all fuzzers need: slices whose surroundings are watched, intervals out
  * of the fuzzer's bytes, and a table of the outcomes that were reached.
  */
 #ifndef KIFWALEB_FUZZ_COMMON_H
@@ -198,7 +198,7 @@ static void take_interval(Bytes *bytes, int64_t *ends)
 /* ---- the outcomes reached */
 
 /* Places of refusals lie below this: the intervals of 32 vats are the most. */
-enum { NUMBERS = 10, PLACES = 32 * 32 + 2 * 32 };
+enum { NUMBERS = 21, PLACES = 32 * 32 + 2 * 32 };
 
 static struct {
     uint64_t times;

@@ -2,7 +2,7 @@
 //! lengths and all.
 
 use crate::case::Slices;
-use crate::reference::{Call, Interval, Operation, Outcome, Pass};
+use crate::reference::{Call, HalfCall, Interval, Operation, Outcome, Pass};
 use crate::side::{Flat, Side};
 use kifwaleb::raw::{self, KifwalebOutcome};
 
@@ -44,6 +44,20 @@ impl Side for Archive {
         }
     }
 
+    fn half_rows(&self, call: HalfCall, state: &mut [i64], n: usize, lent: Slices) -> Outcome {
+        let (state, length) = (state.as_mut_ptr(), state.len());
+        let given = match call {
+            HalfCall::Load => return lend!(kifwaleb_half_load[state, length], n, lent),
+            // SAFETY: as for `lend`; so below.
+            HalfCall::Up => unsafe { raw::kifwaleb_half_up(state, length) },
+            HalfCall::Down => unsafe { raw::kifwaleb_half_down(state, length) },
+            HalfCall::Narrow(vat, Interval { lo, hi }) => unsafe {
+                raw::kifwaleb_half_narrow(state, length, vat, lo, hi)
+            },
+        };
+        given.into()
+    }
+
     /// C is told a number; the Rust package makes a slice of it.
     fn narrower<'a>(&self, n: usize, first: &'a [i64], second: &'a [i64]) -> &'a [i64] {
         kifwaleb::narrower(n, first, second)
@@ -63,10 +77,10 @@ impl Side for Archive {
     }
 }
 
-/// Lends three slices: n first, then each slice's pointer and length, then
-/// whatever else the function takes.
+/// Lends three slices: n first, behind a state's pointer and length if there is one,
+/// then each slice's pointer and length, then whatever else the function takes.
 macro_rules! lend {
-    ($function:ident, $n:expr, $lent:expr $(, $further:expr)?) => {{
+    ($function:ident $([$state:expr, $length:expr])?, $n:expr, $lent:expr $(, $further:expr)?) => {{
         let Slices { matrix, right_side, bounds } = $lent;
         // The pointers to const are taken from changeable slices, so that a
         // change the archive must not make would be seen and nothing else.
@@ -74,6 +88,7 @@ macro_rules! lend {
         // do not overlap, and the functions accept any numbers.
         let given = unsafe {
             raw::$function(
+                $($state, $length,)?
                 $n,
                 matrix.as_mut_ptr(),
                 matrix.len(),

@@ -4,7 +4,7 @@ use crate::guarded::Guarded;
 use crate::reference::{laid_flat, Outcome, System};
 
 /// The arguments of a call. The lengths need not fit the size.
-#[derive(Clone, Debug, PartialEq, Eq)]
+#[derive(Clone, Debug, Default, PartialEq, Eq)]
 pub struct Case {
     pub n: usize,
     pub matrix: Vec<i64>,

@@ -2,8 +2,9 @@
 //! for them. Its `main.rt` describes the form.
 
 use crate::case::{Case, Slices};
-use crate::comparison::Boxes;
-use crate::reference::{self, Call, Interval, Operation, Outcome, Pass, MOST_EQUATIONS};
+use crate::comparison::{Boxes, MOST_LENT};
+use crate::reference::{self, Call, HalfCall, Interval, Operation, Outcome, Pass};
+use crate::reference::{HALF_BOX, MOST_EQUATIONS};
 use crate::side::Side;
 use crate::text_case::TextCase;
 use std::fmt::Write;
@@ -20,6 +21,8 @@ pub enum Entry {
     StartBox,
     /// Which of the two calls, and the sweeps allowed.
     Sweep(Pass, usize),
+    /// On the first numbers, so many, of the system's state.
+    Half(HalfCall, usize),
     Narrower(Boxes),
     Text(Vec<u8>),
     /// The numbers of the text, into slices of these lengths.
@@ -118,6 +121,13 @@ impl<'a> Rest<'a> {
             "X" => Entry::StartBox,
             "S" => Entry::Sweep(Pass::There, self.number()),
             "Y" => Entry::Sweep(Pass::ThereAndBack, self.number()),
+            "L" => Entry::Half(HalfCall::Load, self.number()),
+            "U" => Entry::Half(HalfCall::Up, self.number()),
+            "D" => Entry::Half(HalfCall::Down, self.number()),
+            "Z" => {
+                let length = self.number();
+                Entry::Half(HalfCall::Narrow(self.number(), self.interval()), length)
+            }
             "C" => Entry::Narrower(self.boxes()),
             "R" => Entry::Read(self.number(), self.number()),
             "N" => Entry::Name(self.number()),
@@ -178,6 +188,10 @@ fn letter(call: &Entry) -> char {
         Entry::StartBox => 'X',
         Entry::Sweep(Pass::There, _) => 'S',
         Entry::Sweep(Pass::ThereAndBack, _) => 'Y',
+        Entry::Half(HalfCall::Load, _) => 'L',
+        Entry::Half(HalfCall::Up, _) => 'U',
+        Entry::Half(HalfCall::Down, _) => 'D',
+        Entry::Half(HalfCall::Narrow(..), _) => 'Z',
         Entry::Narrower(_) => 'C',
         Entry::Read(..) => 'R',
         Entry::Name(_) => 'N',
@@ -198,7 +212,11 @@ fn arguments(call: &Entry) -> String {
             let [first, second] = [first, second].map(|numbers| joined(numbers));
             format!("{lengths}\n{}\n{}", first.trim_start(), second.trim_start())
         }
+        Entry::Half(HalfCall::Narrow(vat, Interval { lo, hi }), length) => {
+            format!(" {length} {vat} {lo} {hi}")
+        }
         Entry::Sweep(_, number)
+        | Entry::Half(_, number)
         | Entry::Name(number)
         | Entry::Report(number)
         | Entry::Print(number) => format!(" {number}"),
@@ -233,6 +251,7 @@ fn joined(numbers: &[i64]) -> String {
 /// call for them.
 pub fn lines(entries: &[Entry], side: &impl Side) -> Vec<String> {
     let mut lent = None;
+    let mut state = [0; MOST_LENT];
     let mut text = Vec::new();
     let mut lines = Vec::new();
     for entry in entries {
@@ -240,6 +259,7 @@ pub fn lines(entries: &[Entry], side: &impl Side) -> Vec<String> {
             Entry::Remark(_) => continue,
             Entry::System(system) => {
                 lent = Some(system.clone());
+                state = [0; MOST_LENT];
                 continue;
             }
             Entry::Text(bytes) => {
@@ -254,8 +274,9 @@ pub fn lines(entries: &[Entry], side: &impl Side) -> Vec<String> {
                 let chosen = side.narrower(*n, first, second);
                 format!(" {}{}", chosen.len(), joined(chosen))
             }
-            Entry::Eliminate(_) | Entry::StartBox | Entry::Sweep(..) => {
-                on_system(entry, lent.as_mut().expect("a system stands before"), side)
+            Entry::Eliminate(_) | Entry::StartBox | Entry::Sweep(..) | Entry::Half(..) => {
+                let lent = lent.as_mut().expect("a system stands before");
+                on_system(entry, lent, &mut state, side)
             }
             call => on_text(call, &text, side),
         };
@@ -264,12 +285,13 @@ pub fn lines(entries: &[Entry], side: &impl Side) -> Vec<String> {
     lines
 }
 
-/// The call's outcome, and all that the box holds after it.
-fn on_system(call: &Entry, lent: &mut Case, side: &impl Side) -> String {
+/// The call's outcome, and all that the box holds after it, or the state's box.
+fn on_system(call: &Entry, lent: &mut Case, state: &mut [i64], side: &impl Side) -> String {
     let answer = lent.answer(|n, slices: Slices| match call {
         Entry::Eliminate(call) => side.eliminate(*call, n, slices),
         Entry::StartBox => side.start_box(n, slices),
         Entry::Sweep(pass, allowed) => side.sweep(*pass, n, slices, *allowed),
+        Entry::Half(call, length) => side.half_rows(*call, &mut state[..*length], n, slices),
         other => panic!("{other:?} is no call on a system"),
     });
     lent.bounds = answer.bounds.inside().to_vec();
@@ -282,7 +304,12 @@ fn on_system(call: &Entry, lent: &mut Case, side: &impl Side) -> String {
         Entry::Sweep(..) => format!(" {count}"),
         _ => String::new(),
     };
-    format!(" {number} {place}{counted}{}", joined(&lent.bounds))
+    let left = match call {
+        Entry::Half(..) if lent.n > MOST_EQUATIONS => &[],
+        Entry::Half(..) => &state[HALF_BOX..][..2 * lent.n],
+        _ => &lent.bounds[..],
+    };
+    format!(" {number} {place}{counted}{}", joined(left))
 }
 
 fn on_text(call: &Entry, text: &[u8], side: &impl Side) -> String {

@@ -2,7 +2,7 @@
 
 pub const USAGE: &str =
     "usage: differential [pairs=N] [systems=N] [starts=N] [sweeps=N] [boxes=N] [texts=N] \
-     [searches=N] [inside=N] [symmetric=N] [programs=N] [seed=N]";
+     [searches=N] [inside=N] [symmetric=N] [operations=N] [programs=N] [seed=N]";
 
 #[derive(Clone, Copy, Debug, PartialEq, Eq)]
 pub struct Plan {
@@ -24,6 +24,8 @@ pub struct Plan {
     pub inside: u64,
     /// Symmetric sweep calls held against ordinary ones.
     pub symmetric: u64,
+    /// Operations on half rows, in lists.
+    pub operations: u64,
     /// Texts for the program, edge texts and random ones.
     pub programs: usize,
     pub seed: u64,
@@ -40,6 +42,7 @@ impl Plan {
         searches: 2_000_000,
         inside: 1_000_000,
         symmetric: 1_000_000,
+        operations: 1_000_000,
         programs: 2_000,
         seed: 1,
     };
@@ -58,6 +61,7 @@ impl Plan {
                 ("searches", number) => plan.searches = number.parse().ok()?,
                 ("inside", number) => plan.inside = number.parse().ok()?,
                 ("symmetric", number) => plan.symmetric = number.parse().ok()?,
+                ("operations", number) => plan.operations = number.parse().ok()?,
                 ("programs", number) => plan.programs = number.parse().ok()?,
                 ("seed", number) => plan.seed = number.parse().ok()?,
                 _ => return None,
@@ -79,12 +83,12 @@ mod tests {
     fn arguments_come_in_any_sequence() {
         let plan = read(
             "pairs=2 systems=3 sweeps=5 texts=6 programs=7 seed=4 starts=8 boxes=9 searches=10 \
-             inside=11 symmetric=12",
+             inside=11 symmetric=12 operations=13",
         );
         assert_eq!(
             read(
-                "symmetric=12 inside=11 searches=10 boxes=9 starts=8 seed=4 programs=7 texts=6 \
-                 sweeps=5 systems=3 pairs=2"
+                "operations=13 symmetric=12 inside=11 searches=10 boxes=9 starts=8 seed=4 \
+                 programs=7 texts=6 sweeps=5 systems=3 pairs=2"
             ),
             plan
         );
@@ -92,7 +96,7 @@ mod tests {
         assert_eq!([plan.pairs, plan.systems, plan.sweeps], [2, 3, 5]);
         assert_eq!([plan.texts, plan.programs as u64, plan.seed], [6, 7, 4]);
         assert_eq!([plan.starts, plan.boxes, plan.searches], [8, 9, 10]);
-        assert_eq!([plan.inside, plan.symmetric], [11, 12]);
+        assert_eq!([plan.inside, plan.symmetric, plan.operations], [11, 12, 13]);
         assert_eq!(read(""), Some(Plan::DEFAULT));
     }
 

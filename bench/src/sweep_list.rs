@@ -1,7 +1,7 @@
 //! A list of sweep calls on one lent box.
 
 use crate::case::Case;
-use crate::reference::Pass;
+use crate::reference::{Interval, Pass};
 
 /// One case, swept by several calls one after the other. Each call gets the
 /// box as the one before left it.
@@ -62,6 +62,13 @@ impl SweepList {
 }
 
 impl Solution {
+    /// The narrowest interval around a vat's weight; nothing if there is no such vat.
+    pub fn around(&self, vat: usize) -> Option<Interval> {
+        let weight = self.numerators.get(vat.checked_sub(1)?)?;
+        let below = |weight: i128| weight.div_euclid(self.denominator) as i64;
+        Some(Interval::new(below(*weight), -below(-weight)))
+    }
+
     /// Lower·q ≤ p ≤ upper·q for each weight p/q.
     pub fn lies_in(&self, bounds: &[i64]) -> bool {
         let ends = bounds.chunks_exact(2);

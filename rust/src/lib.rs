@@ -31,6 +31,7 @@
 #![deny(missing_docs)]
 
 mod boxes;
+mod half_rows;
 mod outcome;
 pub mod raw;
 mod steps;
@@ -38,6 +39,7 @@ mod systems;
 mod texts;
 
 pub use boxes::narrower;
+pub use half_rows::HalfRows;
 pub use outcome::{Outcome, Refusal};
 pub use steps::{difference, product, quotient, sum, Interval, Step};
 pub use systems::{eliminate, eliminate_balance, start_box, sweep, symmetric_sweep, Swept};

@@ -43,7 +43,7 @@ pub enum Refusal {
     /// box or the sheet.
     Length(usize),
     /// This interval has its ends out of sequence or out of the range, counted
-    /// from 0 through matrix, right side and start box.
+    /// from 0 through matrix, right side and start box; 0 for a weighed one.
     Ends(usize),
     /// The sweeps allowed are 0 or above 10,000.
     Allowed,
@@ -52,7 +52,8 @@ pub enum Refusal {
     /// A result of this row, by its place after the swaps so far, is out of the range;
     /// 0 for a start box.
     OutOfRange(usize),
-    /// The start box holds no solution, as was found at this vat.
+    /// The start box, or the box of half rows, holds no solution, or none within a
+    /// weighed interval, as was found at this vat.
     Empty(usize),
     /// The text is not as described: its first faulty line, or 0 if it is too
     /// long.
@@ -60,6 +61,10 @@ pub enum Refusal {
     /// For a start box: neither are all row sums of the shares' magnitudes below one
     /// nor all column sums.
     Sums,
+    /// On half rows: the other half pass is due, or nothing is loaded.
+    NotDue,
+    /// On half rows: the vat to be narrowed is none from 1 to n.
+    NoVat,
 }
 
 impl From<KifwalebOutcome> for Outcome {
@@ -79,6 +84,8 @@ impl From<KifwalebOutcome> for Outcome {
             7 => Refusal::Empty(place),
             8 => Refusal::Text(place),
             10 => Refusal::Sums,
+            19 => Refusal::NotDue,
+            20 => Refusal::NoVat,
             number => panic!("the archive returned {number}, place {place}"),
         })
     }

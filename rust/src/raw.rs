@@ -15,6 +15,12 @@
 //! set. What a `*mut` pointer names shares no memory with another slice of the
 //! call.
 
+/// The numbers of a state of half rows: exactly so many, all 0 while nothing is loaded.
+pub const HALF_LENGTH: usize = 2_434;
+
+/// Where the box begins in a state of half rows.
+pub const HALF_BOX: usize = 2;
+
 /// What a single step answers. `lo` and `hi` are 0 on a refusal.
 #[repr(C)]
 #[derive(Clone, Copy, Debug, PartialEq, Eq)]
@@ -37,8 +43,8 @@ pub struct KifwalebOutcome {
     pub number: u64,
     /// The place that goes with the number.
     pub place: u64,
-    /// Whole sweeps, or the bytes of a sheet; 0 for an elimination and for a
-    /// start box.
+    /// Whole sweeps, or the bytes of a sheet; 0 for an elimination, for a start box
+    /// and on half rows.
     pub count: u64,
 }
 
@@ -110,6 +116,34 @@ extern "C" {
         bounds: *mut i64,
         bounds_len: usize,
         allowed: usize,
+    ) -> KifwalebOutcome;
+
+    /// As [`HalfRows::load`](crate::HalfRows::load), into a state of any numbers.
+    pub fn kifwaleb_half_load(
+        state: *mut i64,
+        state_len: usize,
+        n: usize,
+        b_matrix: *const i64,
+        b_matrix_len: usize,
+        b: *const i64,
+        b_len: usize,
+        bounds: *const i64,
+        bounds_len: usize,
+    ) -> KifwalebOutcome;
+
+    /// As [`HalfRows::up`](crate::HalfRows::up).
+    pub fn kifwaleb_half_up(state: *mut i64, state_len: usize) -> KifwalebOutcome;
+
+    /// As [`HalfRows::down`](crate::HalfRows::down).
+    pub fn kifwaleb_half_down(state: *mut i64, state_len: usize) -> KifwalebOutcome;
+
+    /// As [`HalfRows::narrow`](crate::HalfRows::narrow).
+    pub fn kifwaleb_half_narrow(
+        state: *mut i64,
+        state_len: usize,
+        vat: usize,
+        lo: i64,
+        hi: i64,
     ) -> KifwalebOutcome;
 
     /// As [`narrower`](crate::narrower), by a number: 1 for the first, 2 for the

@@ -3,7 +3,7 @@
 
 use kifwaleb::{difference, product, quotient, sum, Interval, Step, HIGHEST};
 use kifwaleb::{eliminate, eliminate_balance, narrower, report, start_box, sweep, symmetric_sweep};
-use kifwaleb::{raw, Outcome, Refusal, SHEET_LENGTH};
+use kifwaleb::{raw, HalfRows, Outcome, Refusal, SHEET_LENGTH};
 
 const ONE: [i64; 2] = [1_000_000; 2];
 
@@ -108,6 +108,52 @@ fn the_way_back_is_another_sweep_of_the_same_pass() {
     let spent = symmetric_sweep(1, &ONE, &[1, 1], &mut bounds, 1);
     assert_eq!((spent.outcome, spent.count), (Outcome::Spent, 1));
     assert_eq!(bounds, [2, 3]);
+}
+
+#[test]
+fn each_refusal_of_a_load_has_its_name() {
+    let loaded = |n, share: &[i64], delivery: &[i64], bounds: &[i64], refusal| {
+        let refused = HalfRows::load(n, share, delivery, bounds);
+        assert_eq!(refused.err(), Some(refusal));
+    };
+    loaded(33, &ONE, &ONE, &ONE, Refusal::Size);
+    loaded(1, &[], &ONE, &ONE, Refusal::Length(1));
+    loaded(1, &ONE, &[], &ONE, Refusal::Length(2));
+    loaded(1, &ONE, &ONE, &[], Refusal::Length(3));
+    loaded(1, &ONE, &ONE, &[1, 0], Refusal::Ends(2));
+}
+
+/// x = x + 1 from 0 to 1: the lower end rises by a unit each way.
+#[test]
+fn each_refusal_on_half_rows_has_its_name_and_changes_nothing() {
+    let mut rows = HalfRows::load(1, &ONE, &[1, 1], &[0, 1]).unwrap();
+    assert_eq!(rows.down(), Err(Refusal::NotDue));
+    assert_eq!(rows.up(), Ok(()));
+    assert_eq!(rows.up(), Err(Refusal::NotDue));
+    for _ in 0..2 {
+        assert_eq!(rows.down(), Err(Refusal::Empty(1)));
+    }
+    assert_eq!(rows.narrow(0, 1, 0), Err(Refusal::NoVat));
+    assert_eq!(rows.narrow(usize::MAX, 1, 0), Err(Refusal::NoVat));
+    assert_eq!(rows.narrow(1, 1, 0), Err(Refusal::Ends(0)));
+    assert_eq!(rows.narrow(1, 2, 3), Err(Refusal::Empty(1)));
+    assert_eq!(rows.reload(1, &ONE, &ONE, &[]), Err(Refusal::Length(3)));
+    assert_eq!((rows.narrow(1, 1, 3), rows.bounds()), (Ok(()), &[1, 1][..]));
+    assert_eq!(rows.reload(1, &ONE, &[0, 0], &[4, 5]), Ok(()));
+    assert_eq!((rows.up(), rows.bounds()), (Ok(()), &[4, 5][..]));
+}
+
+/// Which the type rules out, but not its memory.
+#[test]
+fn nothing_is_due_where_nothing_is_loaded() {
+    let mut state = [0; raw::HALF_LENGTH + 1];
+    for length in [0, raw::HALF_LENGTH, raw::HALF_LENGTH + 1] {
+        let numbers = state.as_mut_ptr();
+        let given = unsafe { raw::kifwaleb_half_up(numbers, length) };
+        let named = Outcome::Refused(Refusal::NotDue);
+        assert_eq!((Outcome::from(given), given.count), (named, 0));
+    }
+    assert!(state.iter().all(|number| *number == 0));
 }
 
 #[test]

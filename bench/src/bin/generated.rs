@@ -5,10 +5,11 @@
 
 use kifwaleb_bench::case::Case;
 use kifwaleb_bench::case_file::{entries, lines, written, Entry, READ_LENGTHS};
-use kifwaleb_bench::comparison::{Boxes, Search, StartBox};
+use kifwaleb_bench::comparison::{Boxes, HalfList, Search, StartBox};
 use kifwaleb_bench::generator::{
-    boxes_up_to, edge_cases, edge_lists, edge_pairs, edge_texts, random_cases_up_to,
-    random_lists_up_to, random_pairs, random_texts_up_to, searches, starts_up_to, Random,
+    boxes_up_to, edge_cases, edge_lists, edge_pairs, edge_texts, half_lists_up_to,
+    random_cases_up_to, random_lists_up_to, random_pairs, random_texts_up_to, searches,
+    starts_up_to, Random,
 };
 use kifwaleb_bench::reference::{
     read_text, Call, Interval, Operation, LIMIT, MOST_BYTES, MOST_EQUATIONS,
@@ -22,7 +23,7 @@ use std::path::PathBuf;
 use std::{env, fs, io};
 
 /// As many bytes as the program takes in.
-const MOST_CASE_BYTES: usize = 786_432;
+const MOST_CASE_BYTES: usize = 1_048_576;
 
 const SEED: u64 = 1;
 const FEW_VATS: usize = 4;
@@ -41,6 +42,7 @@ fn main() -> io::Result<()> {
     }
     all.extend(starts());
     all.extend(sweeps());
+    all.extend(halves());
     all.extend(choices());
     all.extend(texts());
     all.extend(finds());
@@ -149,8 +151,12 @@ fn has_most_vats(lent: &Case) -> bool {
 
 /// Some words of 64 bits away from 0.
 fn has_far_sums(lent: &Case) -> bool {
+    farthest_ends(lent) > 30
+}
+
+fn farthest_ends(lent: &Case) -> usize {
     let ends = lent.matrix.iter().filter(|end| end.abs() == LIMIT);
-    ends.count() > 30
+    ends.count()
 }
 
 fn eliminations(call: Call) -> Vec<Entry> {
@@ -196,6 +202,27 @@ fn sweeps() -> Vec<Entry> {
     let large = || edge_lists().filter(|list| has_most_vats(&list.lent));
     let far = large().filter(|list| has_far_sums(&list.lent)).step_by(20);
     all.extend(large().take(1).chain(far.take(8)).flat_map(entries));
+    all
+}
+
+/// Of those that load one system, since another one begins with an empty state. Three
+/// of the farthest products on either side of the diagonal are beyond 64 bits.
+fn halves() -> Vec<Entry> {
+    let short = |vats| {
+        let lists = half_lists_up_to(vats, SEED).take(RANDOM);
+        lists.filter(|list| list.loads.len() == 1 && list.calls.len() <= 12)
+    };
+    let few = short(FEW_VATS).filter(|list| has_few_vats(&list.loads[0]));
+    let far = short(3 * FEW_VATS).filter(|list| farthest_ends(&list.loads[0]) >= 12);
+    let entries = |list: HalfList| -> Vec<_> {
+        let system = list.loads.into_iter().map(Entry::System);
+        let calls = list.calls.into_iter();
+        system
+            .chain(calls.map(|(call, length)| Entry::Half(call, length)))
+            .collect()
+    };
+    let mut all = chosen(few.map(entries).collect(), 1, 40_000);
+    all.extend(chosen(far.map(entries).collect(), 1, 16_000));
     all
 }
 

@@ -176,6 +176,47 @@ fn of_sweep(pass: Pass) -> Vec<Goal> {
     goals
 }
 
+/// By what the state holds before the load.
+pub const LOADED: [&str; 2] = [
+    "refused on nothing, up due, down due",
+    "0 on nothing, up due, down due",
+];
+
+/// So many passes there and back by halves are told apart.
+pub const MOST_PASSES: usize = 8;
+
+/// Of the four calls, which come in lists together.
+pub fn of_half_rows() -> Vec<Goal> {
+    let at_vats = |names: &[&'static str]| -> Vec<_> {
+        let goals = names.iter().map(|name| Goal::at(name, 1..=MOST_EQUATIONS));
+        goals.collect()
+    };
+    let mut load = at_vats(&["0 for n"]);
+    load.extend(sizes_and_lengths());
+    load.extend(faulty_ends());
+    load.push(Goal::once("3 in the box"));
+    load.extend(LOADED.map(|name| Goal::at(name, 0..=2)));
+    let mut up = at_vats(&["0 for n", "7 at vat"]);
+    up.push(Goal::once("19 out of turn"));
+    let mut down = up.clone();
+    down.push(Goal::at("0 after passes alone", 1..=MOST_PASSES));
+    let mut narrow = at_vats(&["0 with up due at vat", "0 with down due at vat", "7 at vat"]);
+    narrow.push(Goal::once("3 by sequence"));
+    narrow.push(Goal::at("3 by lower, upper end", 0..=1));
+    narrow.push(Goal::at("20 for 0, n + 1, more", 0..=2));
+    for goals in [&mut up, &mut down, &mut narrow] {
+        goals.push(Goal::once("19 with nothing loaded"));
+        goals.push(Goal::once("a known solution is kept"));
+    }
+    let calls = ["half_load", "half_up", "half_down", "half_narrow"];
+    let both = calls.into_iter().zip([load, up, down, narrow]);
+    both.flat_map(|(call, mut goals)| {
+        goals.push(Goal::once("19 for the length"));
+        goals.into_iter().map(move |goal| goal.by(call))
+    })
+    .collect()
+}
+
 /// One vat's own share is met twice, so that its box can be narrower too.
 pub fn of_symmetric() -> Vec<Goal> {
     let mut goals = vec![Goal::at(NARROWER[1], 1..=MOST_EQUATIONS)];

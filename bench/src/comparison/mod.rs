@@ -2,6 +2,7 @@
 
 mod choices;
 pub mod goals;
+mod half;
 mod inside;
 mod lent;
 mod searches;
@@ -15,6 +16,7 @@ mod tests;
 mod texts;
 
 pub use choices::Boxes;
+pub use half::{HalfList, MOST_LENT};
 pub use inside::{Against, Inside};
 pub use searches::{Memory, Search, LONGEST};
 pub use starts::StartBox;

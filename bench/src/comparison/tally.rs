@@ -2,6 +2,9 @@
 
 use std::ops::RangeInclusive;
 
+/// Of the table, from 0.
+const NUMBERS: usize = 21;
+
 /// Something that calls of a kind can reach, at each of its places: numbers of
 /// vats, rows, lines. What has no place is at 0.
 #[derive(Clone, Debug, PartialEq, Eq)]
@@ -18,7 +21,7 @@ pub struct Tally {
     /// By goal and place.
     reached: Vec<Vec<u64>>,
     /// By the number that the call returned, or that its sheet says.
-    numbers: [u64; 11],
+    numbers: [u64; NUMBERS],
 }
 
 impl Goal {
@@ -54,7 +57,7 @@ impl Tally {
         Tally {
             reached: goals.iter().map(places).collect(),
             goals,
-            numbers: [0; 11],
+            numbers: [0; NUMBERS],
         }
     }
 

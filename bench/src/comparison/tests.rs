@@ -3,12 +3,14 @@
 
 use super::*;
 use crate::case::{Case, Slices};
-use crate::reference::{Call, Interval, Operation, Outcome, Pass, LIMIT};
+use crate::reference::{Call, HalfCall, Interval, Operation, Outcome, Pass};
+use crate::reference::{HALF_BOX, HALF_LENGTH, LIMIT};
 use crate::samples::{identity, three_equations, INPUT};
 use crate::side::{Flat, Reference};
 use crate::sweep_list::{Solution, SweepList};
 use crate::text_case::TextCase;
 use std::cell::Cell;
+use std::iter;
 
 /// One wrong number or byte in an answer.
 #[derive(Clone, Copy, Debug)]
@@ -109,6 +111,16 @@ impl Side for Changed {
         self.numbers(Reference.sweep(pass, n, lent.again(), allowed), lent)
     }
 
+    /// In place of the start box, which a load only reads, the box in the state.
+    fn half_rows(&self, call: HalfCall, state: &mut [i64], n: usize, mut lent: Slices) -> Outcome {
+        let outcome = Reference.half_rows(call, state, n, lent.again());
+        let left = Slices {
+            bounds: &mut state[HALF_BOX..][..2],
+            ..lent
+        };
+        self.numbers(outcome, left)
+    }
+
     /// The empty part behind the first, if it is to be another than the right one.
     fn narrower<'a>(&self, n: usize, first: &'a [i64], second: &'a [i64]) -> &'a [i64] {
         match self.is_now() {
@@ -166,6 +178,15 @@ fn list(allowed: &[usize]) -> SweepList {
         bounds: vec![0, 100],
     };
     SweepList::new(lent, allowed)
+}
+
+/// On the same balance.
+fn half_list(calls: &[HalfCall]) -> HalfList {
+    HalfList {
+        loads: vec![list(&[]).lent],
+        calls: calls.iter().map(|call| (*call, HALF_LENGTH)).collect(),
+        solution: None,
+    }
 }
 
 /// In 5 bytes of which places 1 and 2 hold the byte sought.
@@ -253,6 +274,24 @@ fn a_box_wider_than_the_former_one_is_noticed() {
     assert_compared(&goals::of_symmetric(), &[ordinary], &changes);
 }
 
+/// Each call, refused and not. Without a weighing the symmetric call comes last.
+#[test]
+fn what_half_rows_leave_is_compared() {
+    let goals = goals::of_half_rows();
+    let [load, up, down] = [HalfCall::Load, HalfCall::Up, HalfCall::Down];
+    let narrow = |vat, lo| HalfCall::Narrow(vat, Interval::new(lo, 99));
+    let mut list = half_list(&[up, load, up, narrow(1, 2), down, narrow(1, 60)]);
+    list.calls
+        .extend([(down, HALF_LENGTH), (load, HALF_LENGTH + 1)]);
+    let changes = [&CHANGES[..3], &CHANGES[7..]].concat();
+    assert_compared(&goals, &[list], &changes);
+    assert_compared(&goals, &[half_list(&[load])], &CHANGES);
+    let (change, calls) = (CHANGES[8], Cell::new(3));
+    let passes = [half_list(&[load, up, down])].into_iter();
+    let found = compare(goals, passes, 9, &Changed { change, calls });
+    assert!(found.unwrap_err().contains("than the symmetric call"));
+}
+
 #[test]
 fn a_wrong_length_of_the_sheet_is_expected_as_the_call_answers_it() {
     let mut case = TextCase::new(INPUT.to_vec());
@@ -290,6 +329,10 @@ fn a_lost_solution_is_reported() {
     });
     let lists = [wrong.clone()].into_iter();
     let text = compare(goals::of_sweeps(), lists, 9, &Reference).unwrap_err();
+    assert!(text.contains("is lost"), "{text}");
+    let mut halves = half_list(&[HalfCall::Load, HalfCall::Up]);
+    halves.solution = wrong.solution.clone();
+    let text = compare(goals::of_half_rows(), iter::once(halves), 9, &Reference).unwrap_err();
     assert!(text.contains("is lost"), "{text}");
     let start = [StartBox(wrong)].into_iter();
     let text = compare(goals::of_start_box(), start, 9, &Reference).unwrap_err();

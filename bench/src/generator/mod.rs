@@ -2,6 +2,7 @@
 //! steered to where a wrong answer would show.
 
 mod choices;
+mod half;
 mod inside;
 mod pairs;
 mod random;
@@ -13,6 +14,7 @@ mod systems;
 mod texts;
 
 pub use choices::boxes_up_to;
+pub use half::half_lists_up_to;
 pub use inside::{insides, symmetric_insides};
 pub use pairs::{edge_pairs, random_pairs};
 pub use random::Random;

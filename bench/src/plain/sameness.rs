@@ -6,7 +6,7 @@ use crate::comparison::{compare, goals, Elimination, Goal, Trial};
 use crate::generator::{
     edge_cases, edge_lists, edge_texts, random_cases, random_lists, random_texts, starts_up_to,
 };
-use crate::reference::{Call, Interval, Operation, Outcome, Pass, MOST_EQUATIONS};
+use crate::reference::{Call, HalfCall, Interval, Operation, Outcome, Pass, MOST_EQUATIONS};
 use crate::side::{Flat, Side};
 
 struct Plain;
@@ -28,6 +28,10 @@ impl Side for Plain {
     fn sweep(&self, pass: Pass, n: usize, lent: Slices, allowed: usize) -> Outcome {
         let (matrix, right_side, bounds) = (lent.matrix, lent.right_side, lent.bounds);
         sweep(pass, n, matrix, right_side, bounds, allowed)
+    }
+
+    fn half_rows(&self, _: HalfCall, _: &mut [i64], _: usize, _: Slices) -> Outcome {
+        unimplemented!("half rows are timed against our own calls")
     }
 
     fn narrower<'a>(&self, _: usize, _: &'a [i64], _: &'a [i64]) -> &'a [i64] {

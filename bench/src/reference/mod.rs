@@ -4,6 +4,7 @@
 mod elimination;
 #[cfg(test)]
 mod enclosure;
+mod half;
 mod interval;
 mod narrower;
 mod numbers;
@@ -20,6 +21,7 @@ mod text;
 mod text_examples;
 
 pub use elimination::{calculate, eliminate, eliminate_balance, numerator, trace, Call, Trace};
+pub use half::{half_rows, HalfCall, Loaded, HALF_BOX, HALF_LENGTH};
 pub use interval::{Interval, WideInterval, LIMIT, SCALE};
 pub use narrower::{narrower, width};
 pub use numbers::*;

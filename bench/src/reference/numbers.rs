@@ -22,3 +22,7 @@ pub const FAULTY_TEXT: u64 = 8;
 pub const SPENT: u64 = 9;
 /// Neither are all row sums of magnitudes below one nor all column sums.
 pub const FAULTY_SUMS: u64 = 10;
+/// Nothing is loaded, or a half pass is out of turn.
+pub const NOT_DUE: u64 = 19;
+/// A narrowed vat outside 1 to n.
+pub const NO_VAT: u64 = 20;

@@ -87,7 +87,11 @@ pub fn sweep_end(
 
 /// Copies the lent numbers once they have passed every test, in the sequence
 /// 1, 2, 4, 3.
-fn read(n: usize, lent: [&[i64]; 3], allowed: usize) -> Result<(System, Vec<Interval>), SweepEnd> {
+pub(super) fn read(
+    n: usize,
+    lent: [&[i64]; 3],
+    allowed: usize,
+) -> Result<(System, Vec<Interval>), SweepEnd> {
     test_size(n)?;
     test_lengths(n, lent.map(<[i64]>::len))?;
     test_allowed(allowed)?;
@@ -154,7 +158,7 @@ fn pass_once(
 }
 
 /// Every vat meets what `x` holds when its turn comes: the newest boxes, its own too.
-fn half_pass(
+pub(super) fn half_pass(
     rounding: Rounding,
     balance: &System,
     x: &mut [Interval],
@@ -176,7 +180,7 @@ fn right_hand(rounding: Rounding, balance: &System, x: &[Interval], i: usize) ->
 
 /// Nothing if the two do not meet. Otherwise both ends lie in the old interval
 /// and therefore in the range.
-fn intersection(sum: WideInterval, old: Interval) -> Option<Interval> {
+pub(super) fn intersection(sum: WideInterval, old: Interval) -> Option<Interval> {
     let old = WideInterval::from(old);
     let (lo, hi) = (sum.lo.max(old.lo), sum.hi.min(old.hi));
     (lo <= hi).then(|| Interval::new(lo as i64, hi as i64))

@@ -5,8 +5,9 @@ mod program;
 use kifwaleb_bench::archive::Archive;
 use kifwaleb_bench::comparison::{compare, goals, Elimination, Goal, Pair, Trial};
 use kifwaleb_bench::generator::{
-    boxes_up_to, edge_cases, edge_lists, edge_pairs, edge_texts, insides, random_cases,
-    random_lists, random_pairs, random_texts, searches, starts_up_to, symmetric_insides,
+    boxes_up_to, edge_cases, edge_lists, edge_pairs, edge_texts, half_lists_up_to, insides,
+    random_cases, random_lists, random_pairs, random_texts, searches, starts_up_to,
+    symmetric_insides,
 };
 use kifwaleb_bench::plan::{Plan, USAGE};
 use kifwaleb_bench::reference::{Call, Operation, MOST_EQUATIONS};
@@ -37,6 +38,7 @@ fn all_hold(plan: &Plan) -> bool {
             .all(|call| eliminations_hold(plan, call))
         && starts_and_choices_hold(plan)
         && sweeps_hold(plan)
+        && half_rows_hold(plan)
         && reports_hold(plan)
         && searches_hold(plan)
         && boxes_lie_inside(plan)
@@ -100,6 +102,12 @@ fn sweeps_hold(plan: &Plan) -> bool {
         random,
         plan.sweeps,
     )
+}
+
+fn half_rows_hold(plan: &Plan) -> bool {
+    let lists = half_lists_up_to(MOST_EQUATIONS, plan.seed);
+    let (goals, kind) = (goals::of_half_rows(), "random operations");
+    holds("half_rows", kind, goals, lists, plan.operations)
 }
 
 fn reports_hold(plan: &Plan) -> bool {

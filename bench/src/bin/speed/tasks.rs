@@ -3,6 +3,7 @@
 use crate::balances::{
     heavy_row, longest, mixed, noughts, shares, slow, slow_noughts, with_wide_box,
 };
+use kifwaleb::{HalfRows, LOWEST};
 use kifwaleb_bench::archive::Archive;
 use kifwaleb_bench::case::{Case, Slices};
 use kifwaleb_bench::generator::{long_named_text, short_named_text};
@@ -19,14 +20,15 @@ use std::hint::black_box;
 pub enum Side {
     /// The archive.
     Ours,
-    /// Everyday Rust, or the archive's ordinary sweeps against its symmetric ones.
+    /// Everyday Rust, or another of the archive's calls: ordinary sweeps against symmetric
+    /// ones, these against half passes, and a half pass against a narrowing.
     Theirs,
 }
 
 /// What a task is called, and how it is made for so many vats.
 pub type Kind = (&'static str, fn(usize) -> Task);
 
-pub const KINDS: [Kind; 21] = [
+pub const KINDS: [Kind; 24] = [
     ("eliminate-shares", |n| Task::Eliminate(shares(n))),
     ("eliminate-mixed", |n| Task::Eliminate(mixed(n))),
     ("start-shares", |n| Task::Start(shares(n))),
@@ -60,6 +62,11 @@ pub const KINDS: [Kind; 21] = [
     ("pass-mixed", |n| Task::passes(slow(mixed(n - 1)), 1)),
     ("passes-dense", |n| Task::passes(slow(shares(n - 1)), 100)),
     ("passes-mixed", |n| Task::passes(slow(mixed(n - 1)), 100)),
+    ("half-dense", |n| Task::halves(slow(shares(n - 1)))),
+    ("half-mixed", |n| Task::halves(slow(mixed(n - 1)))),
+    ("narrow-mixed", |n| {
+        Task::Narrow([(); 2].map(|()| loaded(&with_wide_box(mixed(n)))))
+    }),
     ("read-longest", |n| Task::report(&crossed(longest(n)))),
     ("read-noughts", |n| {
         Task::on_text(short_named_text(&crossed(noughts(n))))
@@ -81,13 +88,30 @@ pub enum Task {
         /// Theirs are the archive's ordinary sweeps, twice as many.
         twice: bool,
     },
+    /// Always from what was loaded, and lent with it.
+    Halves(Case, HalfRows),
+    /// As loaded, and as the calls of a round leave it.
+    Narrow([HalfRows; 2]),
     Report {
         text: Vec<u8>,
         out: Vec<u8>,
     },
 }
 
+/// Of a task with half rows.
+const PASSES: usize = 100;
+
+fn loaded(lent: &Case) -> HalfRows {
+    let rows = HalfRows::load(lent.n, &lent.matrix, &lent.right_side, &lent.bounds);
+    rows.expect("every task is a balance")
+}
+
 impl Task {
+    fn halves(lent: Case) -> Task {
+        let rows = loaded(&lent);
+        Task::Halves(lent, rows)
+    }
+
     fn sweep(pass: Pass, lent: Case, allowed: usize) -> Task {
         Task::swept(lent, SweepCall { pass, allowed }, false)
     }
@@ -117,6 +141,9 @@ impl Task {
     }
 
     pub fn run(&mut self, side: Side, times: usize) {
+        if let Task::Narrow([loaded, rows]) = self {
+            *rows = loaded.clone();
+        }
         for _ in 0..times {
             black_box(self.run_once(side));
         }
@@ -140,6 +167,8 @@ impl Task {
                     side => side.sweep(*pass, lent.n, lent.slices(), *allowed),
                 }
             }
+            Task::Halves(lent, loaded) => side.passes(lent, black_box(loaded)),
+            Task::Narrow([_, rows]) => side.narrow(rows),
             Task::Report { text, out } => side.report(black_box(text), out),
         }
     }
@@ -157,16 +186,22 @@ impl Task {
         let (number, count) = (ours.0.number, ours.0.count);
         match self {
             Task::Sweep { call, .. } => assert_eq!((number, count), (SPENT, call.allowed as u64)),
+            Task::Halves(..) => assert_eq!((number, count), (SPENT, PASSES as u64)),
             // A text that is only read is refused for its first interval.
             Task::Report { .. } => assert!(number == DONE || number == FAULTY_ENDS),
-            Task::Eliminate(_) | Task::Start(_) => assert_eq!(number, DONE),
+            Task::Eliminate(_) | Task::Start(_) | Task::Narrow(_) => assert_eq!(number, DONE),
         }
     }
 
-    /// The box or the sheet as the last call left it, which is then undone.
+    /// The box or the sheet as the last call left it, which is then undone. A narrowing and
+    /// a half pass do not leave the same.
     fn left_behind(&mut self) -> Vec<u8> {
         match self {
-            Task::Eliminate(lent) | Task::Start(lent) | Task::Sweep { lent, .. } => {
+            Task::Narrow(_) => Vec::new(),
+            Task::Eliminate(lent)
+            | Task::Start(lent)
+            | Task::Sweep { lent, .. }
+            | Task::Halves(lent, _) => {
                 let bounds = lent.bounds.iter().flat_map(|end| end.to_le_bytes());
                 let left = bounds.collect();
                 lent.bounds.fill(0);
@@ -208,6 +243,33 @@ impl Side {
                 plain::sweep(pass, n, matrix, right_side, bounds, allowed)
             }
         }
+    }
+
+    /// By halves, counted as the symmetric call counts them, and by that.
+    fn passes(self, lent: &mut Case, loaded: &HalfRows) -> Outcome {
+        lent.bounds.copy_from_slice(loaded.bounds());
+        if let Side::Theirs = self {
+            return Archive.sweep(ThereAndBack, lent.n, lent.slices(), PASSES);
+        }
+        let mut rows = loaded.clone();
+        for _ in 0..PASSES {
+            assert_eq!((rows.up(), rows.down()), (Ok(()), Ok(())));
+        }
+        lent.bounds.copy_from_slice(rows.bounds());
+        Outcome::counted(SPENT, 0, PASSES as u64)
+    }
+
+    /// The last vat by a unit, up being due. Theirs is the half pass that is due; to be
+    /// refused the other one takes next to no time.
+    fn narrow(self, rows: &mut HalfRows) -> Outcome {
+        let numbers = rows.bounds().len();
+        let upper = rows.bounds()[numbers - 1] - 1;
+        let done = match self {
+            Side::Ours => rows.narrow(numbers / 2, LOWEST, upper),
+            Side::Theirs => rows.up().or_else(|_| rows.down()),
+        };
+        assert_eq!(done, Ok(()));
+        Outcome::DONE
     }
 
     fn report(self, text: &mut [u8], out: &mut [u8]) -> Outcome {

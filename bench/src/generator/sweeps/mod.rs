@@ -8,7 +8,7 @@ mod lists;
 mod slow;
 mod small;
 pub(super) mod solved;
-mod starts;
+pub(super) mod starts;
 
 pub use edges::edge_lists;
 pub use lists::{random_lists, random_lists_up_to};
