@@ -1,5 +1,5 @@
 -- One turn of the loop that works out the sums right of the diagonal, and the parts of a state that is loaded over another one.
-use mathlib.Core.Path.{_≡_, refl}
+use mathlib.Core.Path.{_≡_}
 use mathlib.Core.Bool.{true, false}
 use mathlib.Core.List.{List}
 use Prim.Native.Nat.{ℕ, suc, _+_, _-_, _*_, _≤_, _<_}

@@ -7,7 +7,6 @@ use native.Mathlib.Omega.{arith}
 use lib.IntN.{ℤ, pos}
 use lib.ListN.{length, getD, take, drop, length-drop}
 use lib.Seq.{length-take-le, getD-take, getD-drop}
-use Rattle.outcome.specs.declared.Outcome.{Outcome}
 use Rattle.interval.specs.declared.Interval.{Interval}
 use Rattle.interval.specs.Interval.{zero as zeroInterval, scale, exactSum, exactProduct, rounded, intersection}
 use Rattle.interval.proofs.Range.{same-ends}

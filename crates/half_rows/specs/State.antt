@@ -8,7 +8,7 @@ use lib.ListN.{length, getD, set, replicate}
 use lib.Seq.{paste}
 use lib.Signed.{leZ}
 use Rattle.inputs.specs.System.{System, system}
-use Rattle.half_rows.specs.Rows.{part, sides}
+use Rattle.half_rows.specs.Rows.{part}
 
 abbrev pub stateLength : ℕ
 stateLength = 2_434

@@ -6,17 +6,15 @@ use Prim.Native.Nat.{ℕ, zero, suc, _+_, _*_, _≤_, _<_}
 use native.Mathlib.Omega.{arith}
 use native.Mathlib.Decide.{ℕ-discrete}
 use native.Mathlib.Nat.{zero-add, le-refl}
-use lib.IntN.{ℤ, pos}
+use lib.IntN.{ℤ}
 use lib.ListN.{length}
-use lib.Seq.{getD-take, getD-drop}
 use Rattle.outcome.specs.declared.Outcome.the-variants as outcome
 use Rattle.outcome.specs.Run.{Run, refused, done}
 use Rattle.interval.specs.declared.Interval.{Interval}
-use Rattle.interval.specs.Interval.{acceptable, isEmpty}
-use Rattle.interval.proofs.Range.{same-ends}
+use Rattle.interval.specs.Interval.{isEmpty}
 use Rattle.inputs.specs.declared.Test.the-variants.{Pass}
-use Rattle.inputs.specs.Place.{at, put, cell}
-use Rattle.inputs.specs.Tests.{both, need, proper}
+use Rattle.inputs.specs.Place.{put, cell}
+use Rattle.inputs.specs.Tests.{proper}
 use Rattle.inputs.specs.Code.{Sound}
 use Rattle.inputs.specs.System.{System}
 use Rattle.inputs.proofs.Tests.{proper-all}
@@ -27,7 +25,7 @@ use Rattle.kept_sums.proofs.Kept.{length-put-sum}
 use Rattle.sweep.specs.Pass.{component, along}
 use Rattle.sweep.specs.Code.{Ready}
 use Rattle.sweep.proofs.Pass.{ready-put}
-use Rattle.half_rows.specs.Rows.{beside, begin, side, ofState, part, halfRow, Worked, components, halfAlong}
+use Rattle.half_rows.specs.Rows.{beside, begin, side, ofState, halfRow, Worked, components, halfAlong}
 use Rattle.half_rows_afresh.proofs.Sums.{component-joined}
 use Rattle.half_rows_afresh.proofs.Kept.{Kept, AllKept, kept-put-same, kept-put-other, kept-unread}
 use Rattle.half_rows_afresh.proofs.Way.{left, turn, Ahead, Passed, left-all, left-none, passed-all, passed-none, left-next, turn-below, turn-ahead, ahead-before, passed-before, ahead-unread, passed-unread}
@@ -39,7 +37,7 @@ sound-proper t h d p from = proper-all t d p from (λ k l. h .each (p + k))
 row-proper : (back : Bool) (s : System) (i : ℕ) → Sound (s .matrix) → proper (halfRow back s i) (beside back (s .size) i + 1) 0 0 ≡ Pass
 unfolding halfRow
 row-proper back s i h =
-    proper-yes _ _ 0 0
+    proper-all _ _ 0 0
     (λ k l. rw (zero-add k, at-part (s .matrix) (cell (s .size) i (begin back i)) (beside back (s .size) i + 1) k l) (h .each _))
 
 module _ (back : Bool) (s : System) where

@@ -11,11 +11,11 @@ use lib.Signed.{_≤ℤ_, _<ℤ_, ltZ-yes}
 use lib.Seq.{getD-set-same, getD-set-other}
 use Rattle.integer.specs.Rounding.{floorDiv}
 use Rattle.integer.proofs.Linear.{linear, reading, ring, over}
-use Rattle.integer.proofs.Order.{yes-le, yes-lt}
+use Rattle.integer.proofs.Order.{yes-le}
 use Rattle.integer.proofs.Rounding.{floor-low, floor-high}
 use Rattle.interval.specs.declared.Interval.{Interval}
 use Rattle.interval.proofs.Range.{same-ends}
-use Rattle.kept_sums.specs.Kept.{base, endAt, putEnd, sumAt, putSum, endReady, sumReady}
+use Rattle.kept_sums.specs.Kept.{base, shift, endAt, putEnd, sumAt, putSum, endReady, sumReady}
 
 pub base-above : pos 0 <ℤ base
 base-above = ltZ-yes tt
@@ -28,24 +28,24 @@ length-put-end K p z = simp length-set
 high-put : (K : List ℤ) (p : ℕ) (z : ℤ) → p < length K → getD (putEnd K p z) p (pos 0) ≡ floorDiv z base
 unfolding putEnd
 high-put K p z h =
-    getD-set-other (set K p (floorDiv z base)) (p + 1) p (z -ℤ floorDiv z base *ℤ base) (pos 0) (omega arith) ∙ getD-set-same K p (floorDiv z base) (pos 0) h
+    getD-set-other (set K p (floorDiv z base)) (p + 1) p (z -ℤ floorDiv z base *ℤ base -ℤ shift) (pos 0) (omega arith) ∙ getD-set-same K p (floorDiv z base) (pos 0) h
 
-low-put : (K : List ℤ) (p : ℕ) (z : ℤ) → p + 1 < length K → getD (putEnd K p z) (p + 1) (pos 0) ≡ z -ℤ floorDiv z base *ℤ base
+low-put : (K : List ℤ) (p : ℕ) (z : ℤ) → p + 1 < length K → getD (putEnd K p z) (p + 1) (pos 0) ≡ z -ℤ floorDiv z base *ℤ base -ℤ shift
 unfolding putEnd
-low-put K p z h = getD-set-same (set K p (floorDiv z base)) (p + 1) (z -ℤ floorDiv z base *ℤ base) (pos 0) (simp length-set h)
+low-put K p z h = getD-set-same (set K p (floorDiv z base)) (p + 1) (z -ℤ floorDiv z base *ℤ base -ℤ shift) (pos 0) (simp length-set h)
 
 number-put-other : (K : List ℤ) (p q : ℕ) (z : ℤ) → q ≢ p → q ≢ p + 1 → getD (putEnd K p z) q (pos 0) ≡ getD K q (pos 0)
 unfolding putEnd
 number-put-other K p q z h k =
-    getD-set-other (set K p (floorDiv z base)) (p + 1) q (z -ℤ floorDiv z base *ℤ base) (pos 0) k ∙ getD-set-other K p q (floorDiv z base) (pos 0) h
+    getD-set-other (set K p (floorDiv z base)) (p + 1) q (z -ℤ floorDiv z base *ℤ base -ℤ shift) (pos 0) k ∙ getD-set-other K p q (floorDiv z base) (pos 0) h
 
 -- ---- an end
 end-put-same : (K : List ℤ) (p : ℕ) (z : ℤ) → p + 1 < length K → endAt (putEnd K p z) p ≡ z
 unfolding endAt
-end-put-same K p z h = rw (high-put K p z (omega arith), low-put K p z h) (go z (floorDiv z base *ℤ base))
+end-put-same K p z h = rw (high-put K p z (omega arith), low-put K p z h) (go z (floorDiv z base *ℤ base) shift)
   where
-    go : (z a : ℤ) → (a +ℤ (z -ℤ a)) ≡ z
-    go = over 2 _ (λ ρ. simp reading (ring _ _ _ tt))
+    go : (z a h : ℤ) → (a +ℤ ((z -ℤ a -ℤ h) +ℤ h)) ≡ z
+    go = over 3 _ (λ ρ. simp reading (ring _ _ _ tt))
 
 module _ (K : List ℤ) (p q : ℕ) (z : ℤ) (a : q ≢ p) (b : q ≢ p + 1) (c : q + 1 ≢ p) where
   end-put-other : endAt (putEnd K p z) q ≡ endAt K q
@@ -54,7 +54,7 @@ module _ (K : List ℤ) (p q : ℕ) (z : ℤ) (a : q ≢ p) (b : q ≢ p + 1) (c
 
   ready-end-other : endReady (putEnd K p z) q ≡ endReady K q
   unfolding endReady
-  ready-end-other = rw (number-put-other K p q z a b, number-put-other K p (q + 1) z c (omega arith))
+  ready-end-other = rw (number-put-other K p q z a b)
 
 -- an end that two numbers can be
 abbrev pub EndSmall : ℤ → Type 0
@@ -63,14 +63,11 @@ EndSmall z = (negℤ (pos (2 ^ 67)) ≤ℤ z) × (z ≤ℤ pos (2 ^ 67))
 ready-end-same : (K : List ℤ) (p : ℕ) (z : ℤ) → p + 1 < length K → EndSmall z → endReady (putEnd K p z) p ≡ true
 unfolding endReady
 ready-end-same K p z h s =
-    let f = floorDiv z base in
-    let l = floor-low z base base-above in
-    let u = floor-high z base base-above in
-    let b = bounded f z (s .0) (s .1) l u in
-    rw (high-put K p z (omega arith), low-put K p z h, yes-le _ _ (b .0), yes-le _ _ (b .1), yes-le _ _ (b .2)) (yes-lt _ _ (b .3))
+    let b = bounded (floorDiv z base) z (s .0) (s .1) (floor-low z base base-above) (floor-high z base base-above) in
+    rw (high-put K p z (omega arith), yes-le _ _ (b .0)) (yes-le _ _ (b .1))
   where
     bounded : (f z : ℤ) → negℤ (pos (2 ^ 67)) ≤ℤ z → z ≤ℤ pos (2 ^ 67) → (f *ℤ base) ≤ℤ z → z <ℤ (f *ℤ base +ℤ base)
-        → (negℤ (pos (2 ^ 35)) ≤ℤ f) × (f ≤ℤ pos (2 ^ 35)) × (pos 0 ≤ℤ (z -ℤ f *ℤ base)) × ((z -ℤ f *ℤ base) <ℤ base)
+        → (negℤ (pos 8) ≤ℤ f) × (f ≤ℤ pos 8)
     bounded = over 2 _ (λ ρ. simp (linear, ρ) (omega arith))
 
 -- ---- a sum

@@ -3,20 +3,41 @@ use wide_sum::WideInterval;
 ghost use mathlib.Core.Path.{_≡_};
 ghost use mathlib.Core.Bool.{true};
 ghost use Prim.Native.Nat.{_+_, _*_, _<_};
+ghost use lib.IntN.{pos, _+ℤ_, _-ℤ_};
 ghost use lib.ListN.{length};
 ghost use Rattle.wide_sum.specs.Wide.{held, heldBoth};
 ghost use Rattle.wide_sum.specs.Code.{Near, NearBoth};
-ghost use Rattle.kept_sums.specs.Kept.{endAt, putEnd, sumAt, putSum, endReady, sumReady};
+ghost use Rattle.kept_sums.specs.Kept.{shift, endAt, putEnd, sumAt, putSum, endReady, sumReady};
 
-// 2^32, by which an end is parted.
-const BASE: i64 = 4_294_967_296;
+// −2^63, and 2^63.
+const LOWEST: i64 = -9_223_372_036_854_775_808;
 
-const NATURAL_BASE: u64 = BASE as u64;
+const REST: u64 = 9_223_372_036_854_775_808;
 
-// From −2^35 to 2^35 is the high number of an end. 2^35 more, it is 0 or more, and 2^35 is 8 of 2^32.
-const LEAST: i64 = -34_359_738_368;
+// From −8 to 8 is the high number of an end.
+const LEAST: i64 = -8;
 
-const MOST: i64 = 34_359_738_368;
+const MOST: i64 = 8;
+
+// x and 2^63.
+fn lifted(x: i64) -> u64
+    ensures { λ r. ⌜ pos r ≡ x +ℤ shift ⌝ }
+{
+    if x < 0 {
+        return (x - LOWEST) as u64;
+    }
+    x as u64 + REST
+}
+
+// n less 2^63.
+fn sunk(n: u64) -> i64
+    ensures { λ r. ⌜ r ≡ pos n -ℤ shift ⌝ }
+{
+    if n < REST {
+        return n as i64 + LOWEST;
+    }
+    (n - REST) as i64
+}
 
 // Whether the two numbers from p on can be an end.
 fn end_ready(s: &[i64], p: usize) -> bool
@@ -24,13 +45,8 @@ fn end_ready(s: &[i64], p: usize) -> bool
     ensures { λ r. ⌜ r ≡ endReady (now (s .entry)) p ⌝ }
 {
     let high = s[p];
-    let low = s[p + 1];
     if LEAST <= high {
-        if high <= MOST {
-            if 0 <= low {
-                return low < BASE;
-            }
-        }
+        return high <= MOST;
     }
     false
 }
@@ -54,12 +70,9 @@ fn read_end(s: &[i64], p: usize) -> Wide
 {
     let high = s[p];
     let low = s[p + 1];
-    let lifted = (high + MOST) as u64;
-    let rest = low as u64;
-    let whole = (lifted / NATURAL_BASE) as i64;
     Wide {
-        high: whole - 8,
-        low: (lifted % NATURAL_BASE) * NATURAL_BASE + rest,
+        high,
+        low: lifted(low),
     }
 }
 
@@ -79,10 +92,8 @@ fn write_end(s: &mut [i64], p: usize, w: Wide)
     requires { ⌜ (p + 1 < length (now s)) × Near 1_000 w ⌝ }
     ensures { λ _. ⌜ now (s .exit) ≡ putEnd (now (s .entry)) p (held w) ⌝ }
 {
-    let whole = w.high;
-    let rest = w.low;
-    let high = whole * BASE + (rest / NATURAL_BASE) as i64;
-    let low = (rest % NATURAL_BASE) as i64;
+    let high = w.high;
+    let low = sunk(w.low);
     s[p] = high;
     s[p + 1] = low;
 }

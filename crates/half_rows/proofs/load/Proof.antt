@@ -1,7 +1,5 @@
 use mathlib.Core.Path.{sym, _∙_}
 use borrow.Author.Needs.{needs}
-use denote.Ref.{now}
-use Rattle.inputs.specs.System.{system}
 use Rattle.half_rows.proofs.Calls.{load-short, load-refused, load-done}
 use Rattle.half_rows.proofs.load.Statement.{statement}
 use Rattle.half_rows.proofs.load.Tie as tie

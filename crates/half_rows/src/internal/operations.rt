@@ -25,7 +25,7 @@ ghost use Rattle.interval.specs.Interval.{acceptable};
 ghost use Rattle.inputs.specs.Place.{at};
 ghost use Rattle.inputs.specs.Code.{Ended};
 ghost use Rattle.half_rows.specs.State.{stateLength, boxOf, withBox, withSums, withTurn};
-ghost use Rattle.half_rows.specs.Operations.{passOf, passed, narrowedTo, narrowedOf};
+ghost use Rattle.half_rows.specs.Operations.{passOf, narrowedTo, narrowedOf};
 ghost use Rattle.half_rows.specs.Code.{halfOf, passEnd};
 
 // The half pass on copies of the box and of the sums that it works out.

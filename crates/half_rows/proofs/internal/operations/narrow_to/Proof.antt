@@ -1,4 +1,4 @@
-use mathlib.Core.Path.{_≡_, refl, sym, ap, ap₂, _∙_}
+use mathlib.Core.Path.{_≡_, refl, ap, ap₂, _∙_}
 use mathlib.Core.Bool.{not}
 use Prim.Native.Nat.{ℕ, _+_, _-_, _*_, _≤_}
 use native.Mathlib.Omega.{arith}
@@ -7,9 +7,7 @@ use borrow.Author.Tests.{not-true, not-false}
 use denote.Ref.{now}
 use lib.ListN.{length, take, drop}
 use Rattle.interval.specs.Interval.{acceptable}
-use Rattle.inputs.proofs.Place.{length-put}
 use Rattle.inputs.proofs.Tests.{square}
-use Rattle.half_rows.specs.State.{sumsOf}
 use Rattle.half_rows.specs.Code.{renewedOf}
 use Rattle.half_rows.proofs.Row.{spans}
 use Rattle.half_rows.proofs.State.{part-length, sums-end}
