@@ -7,3 +7,4 @@ pub mod Loaded
 pub mod Ends
 pub mod Calls
 pub mod Shares
+pub mod Short

@@ -1,19 +1,26 @@
 -- Shares that are tested on the way.
-use mathlib.Core.Path.{_≡_, refl, sym, ap, subst, _∙_}
+use mathlib.Core.Path.{_≡_, refl, sym, ap, ap₂, subst, _∙_}
 use mathlib.Core.Bool.{Bool, true, false}
 use mathlib.Core.List.{List, []}
 use Prim.Native.Nat.{ℕ, zero, suc, _+_, _-_, _*_, _≤_, _<_}
 use native.Mathlib.Omega.{arith}
 use native.Mathlib.Decide.{decLt}
-use lib.IntN.{ℤ, pos}
+use lib.Dec.{le→leb}
+use lib.IntN.{ℤ, pos, _+ℤ_, _*ℤ_}
 use lib.ListN.{length, take, drop, length-drop}
 use lib.Seq.{length-take-le}
 use lib.Signed.{_≤ℤ_, leZ, ltZ, leZ-yes}
-use Rattle.integer.proofs.Order.{left, le-taken, trans}
+use mir.Syntax.{w64}
+use mir.Val.{SFits}
+use Rattle.integer.proofs.Linear.{linear, over}
+use Rattle.integer.proofs.Order.{left, le-taken, trans, also, prod}
+use Rattle.integer.proofs.Machine.{fits64}
 use Rattle.outcome.specs.declared.Outcome.{Outcome}
 use Rattle.interval.specs.declared.Interval.{Interval}
-use Rattle.interval.specs.Interval.{zero as zeroInterval, lowest, highest, acceptable}
-use Rattle.interval.proofs.Range.{sound-accepted}
+use Rattle.interval.specs.Interval.{zero as zeroInterval, lowest, highest, acceptable, exactSum, exactProduct}
+use Rattle.interval.specs.Code.{Representable}
+use Rattle.interval.proofs.Range.{is-sound, sound-accepted}
+use Rattle.interval.proofs.Signs.{above-least-above, above-greatest-above}
 use Rattle.inputs.specs.declared.Test.{Test}
 use Rattle.inputs.specs.declared.Test.the-variants.{Pass, Fail}
 use Rattle.inputs.specs.Place.{at}
@@ -23,27 +30,83 @@ use Rattle.inputs.proofs.Place.{at-past, zero-accepted}
 use Rattle.inputs.proofs.Tests.{never, proper-each, proper-all}
 use Rattle.wide_sum.specs.declared.WideInterval.{WideInterval}
 use Rattle.wide_sum.specs.Wide.{heldBoth}
-use Rattle.wide_sum.specs.Code.{NearBoth}
+use Rattle.wide_sum.specs.Code.{NearBoth, AddedBoth}
 use Rattle.wide_sum.proofs.Near.{near-both-more}
 use Rattle.rows.specs.Sum.{exactly}
 use Rattle.rows.specs.Code.{Summed}
-use Rattle.rows.proofs.Exact.{exactly-later}
+use Rattle.rows.proofs.Exact.{one-product, exactly-from, exactly-later}
+use Rattle.rows.proofs.Size.{acceptable-small}
 use Rattle.half_rows.specs.Rows.{first, beside, begin, part}
 use Rattle.half_rows.specs.declared.internal.tested.Tested.{Tested}
 use Rattle.half_rows.specs.declared.internal.tested.Tested.the-variants.{Ill, Sum}
-use Rattle.half_rows.specs.Code.{NoneBelow, AllShares, NoShare, SumTested, SumAbove, SideSummed, passes}
+use Rattle.half_rows.specs.Code.{Modest, SumModest, NextAbove, NoneBelow, AllShares, NoShare, SumTested, SideSummed, passes}
 use Rattle.half_rows.proofs.Row.{Spans, spans, at-part, exactly-part, side-is}
 
 -- ---- the three tests
-pub share-is : (v : Interval) → ltZ (v .lo) (pos 0) ≡ false → ltZ (v .hi) (v .lo) ≡ false → leZ (v .hi) (pos 2000000000) ≡ true → (acceptable v ≡ true) × (pos 0 ≤ℤ v .lo)
+pub modest-is : (v : Interval) → ltZ (v .lo) (pos 0) ≡ false → ltZ (v .hi) (v .lo) ≡ false → leZ (v .hi) (pos 16777216) ≡ true → Modest v
 unfolding lowest highest
-share-is v a b c =
+modest-is v a b c =
     let l = left (v .lo) (pos 0) a in
     let o = left (v .hi) (v .lo) b in
-    let h = le-taken (v .hi) (pos 2000000000) c in
+    let f = le-taken (v .hi) (pos 16777216) c in
+    let m : pos 16777216 ≤ℤ pos 2000000000 = leZ-yes tt in
+    let h = trans f m in
     let z : lowest ≤ℤ pos 0 = leZ-yes tt in
     let low = trans z l in
-    (sound-accepted v (record { order = o; lo-in = record { low = low; high = trans o h }; hi-in = record { low = trans low o; high = h } }), l)
+    record {
+      share = sound-accepted v (record { order = o; lo-in = record { low = low; high = trans o h }; hi-in = record { low = trans low o; high = h } });
+      above = l;
+      few = f;
+    }
+
+-- ---- the product of a modest share with a component, and sums of such
+module _ (a b : Interval) (m : Modest a) (e : acceptable b ≡ true) (o : pos 0 ≤ℤ b .lo) where
+  product-modest : SumModest 1 (exactProduct a b)
+  unfolding exactProduct
+  product-modest =
+      let v = is-sound a (m .share) in
+      let w = is-sound b e in
+      let s = acceptable-small b e in
+      let l = above-least-above v w (m .above) o in
+      let h = above-greatest-above v w (m .above) (trans o (s .order)) in
+      let p = go (a .lo) (b .lo) (m .above) (trans (v .order) (m .few)) o (trans (s .order) (s .high)) in
+      let q = go (a .hi) (b .hi) (trans (m .above) (v .order)) (m .few) (trans o (s .order)) (s .high) in
+      record { lo-above = rw l (p .0); lo-few = rw l (p .1); hi-above = rw h (q .0); hi-few = rw h (q .1) }
+    where
+      go : (a b : ℤ) → pos 0 ≤ℤ a → a ≤ℤ pos 16777216 → pos 0 ≤ℤ b → b ≤ℤ pos 2000000000
+          → (pos 0 ≤ℤ (a *ℤ b)) × ((a *ℤ b) ≤ℤ pos (1 * 33554432000000000))
+      go = over 2 _ (λ ρ h₁ h₂ h₃ h₄. also (prod h₁ h₃) (also (prod h₂ h₃) (also (prod h₁ h₄) (also (prod h₂ h₄) (also h₁ (also h₂ (also h₃ (also h₄ (simp (linear, ρ) (omega arith))))))))))
+
+  pub sum-modest : (k : ℕ) {v : Interval} → SumModest k v → SumModest (k + 1) (exactSum v (exactProduct a b))
+  unfolding exactSum
+  sum-modest k {v} s =
+      let u = product-modest in
+      let p = go (pos k) (v .lo) _ (s .lo-above) (s .lo-few) (u .lo-above) (u .lo-few) in
+      let q = go (pos k) (v .hi) _ (s .hi-above) (s .hi-few) (u .hi-above) (u .hi-few) in
+      record { lo-above = p .0; lo-few = p .1; hi-above = q .0; hi-few = q .1 }
+    where
+      go : (k v u : ℤ) → pos 0 ≤ℤ v → v ≤ℤ (k *ℤ pos 33554432000000000) → pos 0 ≤ℤ u → u ≤ℤ pos (1 * 33554432000000000)
+          → (pos 0 ≤ℤ (v +ℤ u)) × ((v +ℤ u) ≤ℤ ((k +ℤ pos 1) *ℤ pos 33554432000000000))
+      go = over 3 _ (λ ρ. simp (linear, ρ) (omega arith))
+
+pub nought-modest : SumModest 0 zeroInterval
+nought-modest = record { lo-above = leZ-yes tt; lo-few = leZ-yes tt; hi-above = leZ-yes tt; hi-few = leZ-yes tt }
+
+pub modest-fits : (k : ℕ) {v : Interval} → k ≤ 32 → SumModest k v → Representable v
+modest-fits k {v} h s =
+    let l : pos k ≤ℤ pos 32 = record { le = le→leb k 32 h } in
+    record { lo-fits = go (pos k) (v .lo) l (s .lo-above) (s .lo-few); hi-fits = go (pos k) (v .hi) l (s .hi-above) (s .hi-few) }
+  where
+    go : (k z : ℤ) → k ≤ℤ pos 32 → pos 0 ≤ℤ z → z ≤ℤ (k *ℤ pos 33554432000000000) → SFits w64 z
+    go = over 2 _ (λ ρ. simp (fits64, linear, ρ) (omega arith))
+
+pub modest-more : {j k : ℕ} {v : Interval} → j ≤ k → SumModest j v → SumModest k v
+modest-more {j} {k} {v} h s =
+    let l : pos j ≤ℤ pos k = record { le = le→leb j k h } in
+    record { lo-above = s .lo-above; lo-few = go (pos j) (pos k) (v .lo) l (s .lo-few); hi-above = s .hi-above; hi-few = go (pos j) (pos k) (v .hi) l (s .hi-few) }
+  where
+    go : (j k z : ℤ) → j ≤ℤ k → z ≤ℤ (j *ℤ pos 33554432000000000) → z ≤ℤ (k *ℤ pos 33554432000000000)
+    go = over 3 _ (λ ρ. simp (linear, ρ) (omega arith))
 
 -- ---- components that are not below 0
 pub above-more : (x : List ℤ) (j : ℕ) → ((i : ℕ) → i < j → pos 0 ≤ℤ at x i .lo) → pos 0 ≤ℤ at x j .lo → (i : ℕ) → i < j + 1 → pos 0 ≤ℤ at x i .lo
@@ -72,11 +135,6 @@ pub one-share : (g : List ℤ) → acceptable (at g 0) ≡ true → AllShares g 
 one-share g e zero h = e
 one-share g e (suc j) h = absurd (omega arith)
 
-pub two-shares : (g : List ℤ) → acceptable (at g 0) ≡ true → acceptable (at g 1) ≡ true → AllShares g 0 2
-two-shares g e f zero h = e
-two-shares g e f (suc zero) h = f
-two-shares g e f (suc (suc j)) h = absurd (omega arith)
-
 pub sound-shares : (g : List ℤ) (d : ℕ) → Sound g → AllShares g 0 d
 sound-shares g d s j h = s .each (0 + j)
 
@@ -90,65 +148,44 @@ part-is h a l = let e : a + l - a ≡ l = omega arith in rw e
 pub part-long : (h : List ℤ) (a l : ℕ) → a + l ≤ length h → length (take (a + l - a) (drop a h)) ≡ l
 part-long h a l k = let e : a + l - a ≡ l = omega arith in rw e (length-take-le l (drop a h) (rw (length-drop a h) (omega arith)))
 
--- ---- the first e shares are summed, and the next l of them, which stand in a part g
-module _ (acc : WideInterval) (h : List ℤ) (p : ℕ) (x : List ℤ) (q : ℕ) where
-  pub record SoFar (e : ℕ) (sum : WideInterval) : Type 0 where
-    pub shares : AllShares h p e
-    pub summed : Summed acc h p x q e sum
+-- ---- the first e shares are summed
+pub record SoFar (h : List ℤ) (p : ℕ) (x : List ℤ) (q e : ℕ) (sum : Interval) : Type 0 where
+  pub shares : AllShares h p e
+  pub summed : sum ≡ exactly h p x q e 0 zeroInterval
+  pub modest : SumModest e sum
 
-  pub none-yet : SoFar 0 acc
+module _ (h : List ℤ) (p : ℕ) (x : List ℤ) (q : ℕ) where
+  pub none-yet : SoFar h p x q 0 zeroInterval
   unfolding exactly
-  none-yet = record { shares = λ j k. absurd (omega arith); summed = record { is = refl; near = λ k n. near-both-more (omega arith) n } }
+  none-yet = record { shares = λ j k. absurd (omega arith); summed = refl; modest = nought-modest }
 
-  module _ {e : ℕ} {sum : WideInterval} (w : SoFar e sum) (l : ℕ) {g : List ℤ} (f : g ≡ part h (2 * (p + e)) (2 * l)) where
-    there : (j : ℕ) → j < l → at g (0 + j) ≡ at h (p + (e + j))
-    there j k =
-        let a : 0 + j ≡ j = omega arith in
-        let b : p + e + j ≡ p + (e + j) = omega arith in
-        rw (f, a) (at-part h (p + e) l j k ∙ ap (at h) b)
+  pub next-sum : {e : ℕ} {sum a b r : Interval} → SoFar h p x q e sum → a ≡ at h (p + e) → Modest a → b ≡ at x (q + e) → NextAbove sum a b r → SoFar h p x q (e + 1) r
+  next-sum {e} {sum} w f m g n =
+      record {
+        shares = more;
+        summed =
+            n .is ∙ ap₂ exactSum (w .summed) (ap₂ exactProduct f g)
+            ∙ sym (exactly-later h p x q e 1 zeroInterval ∙ one-product h (p + e) x (q + e) _);
+        modest = n .modest e (w .modest);
+      }
+    where
+      more : (j : ℕ) → j < e + 1 → acceptable (at h (p + j)) ≡ true
+      more j k = go (decLt j e)
+        where
+          go : Dec (j < e) → acceptable (at h (p + j)) ≡ true
+          go (yes l) = w .shares j l
+          go (no l) = let z : e ≡ j = omega (arith, l, k) in rw (sym z) (ap acceptable (sym f) ∙ m .share)
 
-    pub more-shares : AllShares g 0 l → AllShares h p (e + l)
-    more-shares all j k = go (decLt j e)
-      where
-        go : Dec (j < e) → acceptable (at h (p + j)) ≡ true
-        go (yes b) = w .shares j b
-        go (no b) =
-            let i : e + (j - e) ≡ j = omega (arith, b) in
-            ap (λ (r : ℕ). acceptable (at h (p + r))) (sym i) ∙ ap acceptable (sym (there (j - e) (omega (arith, b)))) ∙ all (j - e) (omega (arith, b))
+  pub summed-none : (acc : WideInterval) → Summed acc h p x q 0 acc
+  unfolding exactly
+  summed-none acc = record { is = refl; near = λ l n. near-both-more (omega arith) n }
 
-    pub more : {s : WideInterval} → AllShares g 0 l → Summed sum g 0 x (q + e) l s → SoFar (e + l) s
-    more all r =
-        record {
-          shares = more-shares all;
-          summed =
-              record {
-                is = r .is ∙ from-part ∙ ap (exactly h (p + e) x (q + e) l 0) (w .summed .is) ∙ sym (exactly-later h p x q e l (heldBoth acc));
-                near = λ k n. near-both-more (omega arith) (r .near _ (w .summed .near k n));
-              };
-        }
-      where
-        from-part : exactly g 0 x (q + e) l 0 (heldBoth sum) ≡ exactly h (p + e) x (q + e) l 0 (heldBoth sum)
-        from-part =
-            let a : p + e + 0 ≡ p + e = omega arith in
-            rw f (exactly-part h (p + e) l 0 x (q + e) l 0 (heldBoth sum) (omega arith) ∙ ap (λ (r : ℕ). exactly h r x (q + e) l 0 (heldBoth sum)) a)
-
-  -- as the code has the part
-  module _ {e : ℕ} {sum : WideInterval} (w : SoFar e sum) (l : ℕ) (r : Tested)
-      (t : SumTested sum (take (2 * (p + e) + 2 * l - 2 * (p + e)) (drop (2 * (p + e)) h)) 0 x (q + e) l r) where
-    told : {u : Tested} → r ≡ u → SumTested sum (take (2 * (p + e) + 2 * l - 2 * (p + e)) (drop (2 * (p + e)) h)) 0 x (q + e) l u
-    told f = subst (λ (u : Tested). SumTested sum (take (2 * (p + e) + 2 * l - 2 * (p + e)) (drop (2 * (p + e)) h)) 0 x (q + e) l u) f t
-
-    pub next-more : {s : WideInterval} → r ≡ Sum s → (d : ℕ) → e + l ≡ d → SoFar d s
-    next-more {s} f d k =
-        let u = told f in
-        subst (λ (d : ℕ). SoFar d s) k (more w l (part-is h (2 * (p + e)) (2 * l)) (u .0) (u .1))
-
-    pub last-above : (d : ℕ) → e + l ≡ d → SumAbove acc h p x q d r
-    last-above d k = go r refl
-      where
-        go : (u : Tested) → r ≡ u → SumAbove acc h p x q d u
-        go Ill f = tt
-        go (Sum s) f = let v = next-more f d k in (v .shares, v .summed)
+  pub summed-up : {d : ℕ} {sum : Interval} (acc r : WideInterval) → 1 ≤ d → SoFar h p x q d sum → AddedBoth acc sum r → Summed acc h p x q d r
+  summed-up {d} {sum} acc r k w a =
+      record {
+        is = a .is ∙ ap (exactSum (heldBoth acc)) (w .summed) ∙ sym (exactly-from h p x q d 0 (heldBoth acc));
+        near = λ l n. near-both-more (omega (arith, k)) (a .near l n);
+      }
 
 -- ---- d shares in a part of their own, as the code has it
 module _ (acc : WideInterval) (h : List ℤ) (p : ℕ) (x : List ℤ) (q d : ℕ) where

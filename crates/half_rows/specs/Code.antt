@@ -2,10 +2,10 @@
 use mathlib.Core.Path.{_≡_}
 use mathlib.Core.Bool.{Bool, true, false, cond, _&&_}
 use mathlib.Core.List.{List}
-use Prim.Native.Nat.{ℕ, _+_, _-_, _*_, _≤_, _<_}
-use lib.IntN.{ℤ, pos, _-ℤ_}
+use Prim.Native.Nat.{ℕ, _+_, _-_, _*_, _^_, _≤_, _<_}
+use lib.IntN.{ℤ, pos, negℤ, _-ℤ_}
 use lib.ListN.{length}
-use lib.Signed.{_≤ℤ_}
+use lib.Signed.{_≤ℤ_, _<ℤ_}
 use Rattle.outcome.specs.declared.Outcome.the-variants as outcome
 use Rattle.outcome.specs.Run.{Run, refused, done, andThen}
 use Rattle.interval.specs.declared.Interval.{Interval}
@@ -17,8 +17,9 @@ use Rattle.inputs.specs.Place.{at}
 use Rattle.inputs.specs.Tests.{both, proper}
 use Rattle.inputs.specs.System.{System}
 use Rattle.inputs.specs.Code.{Sound}
+use Rattle.wide_sum.specs.declared.Wide.{Wide}
 use Rattle.wide_sum.specs.declared.WideInterval.{WideInterval}
-use Rattle.wide_sum.specs.Wide.{heldBoth}
+use Rattle.wide_sum.specs.Wide.{held, heldBoth}
 use Rattle.wide_sum.specs.Code.{NearBoth}
 use Rattle.rows.specs.Sum.{exactly}
 use Rattle.rows.specs.Code.{Summed}
@@ -59,11 +60,27 @@ abbrev pub SumAbove : (acc : WideInterval) (h : List ℤ) (p : ℕ) (x : List �
 SumAbove acc h p x q d Ill = Unit {0}
 SumAbove acc h p x q d (Sum s) = AllShares h p d × Summed acc h p x q d s
 
--- two shares that are intervals and not below 0
-pub record PairAbove (g : List ℤ) : Type 0 where
-  pub shares : Sound g
-  pub first : pos 0 ≤ℤ at g 0 .lo
-  pub second : pos 0 ≤ℤ at g 1 .lo
+-- a share that is an interval, not below 0 and at most 2^24
+pub record Modest (a : Interval) : Type 0 where
+  pub share : acceptable a ≡ true
+  pub above : pos 0 ≤ℤ a .lo
+  pub few : a .hi ≤ℤ pos 16_777_216
+
+-- the sum of at most k products of such with components: each is at most 2^24 · 2,000,000,000
+pub record SumModest (k : ℕ) (v : Interval) : Type 0 where
+  pub lo-above : pos 0 ≤ℤ v .lo
+  pub lo-few : v .lo ≤ℤ pos (k * 33_554_432_000_000_000)
+  pub hi-above : pos 0 ≤ℤ v .hi
+  pub hi-few : v .hi ≤ℤ pos (k * 33_554_432_000_000_000)
+
+pub record NextAbove (v a b r : Interval) : Type 0 where
+  pub is : r ≡ exactSum v (exactProduct a b)
+  pub modest : (k : ℕ) → SumModest k v → SumModest (k + 1) r
+
+-- a wide number that fits 64 bits
+pub record Short (w : Wide) : Type 0 where
+  pub low : negℤ (pos (2 ^ 63)) ≤ℤ held w
+  pub high : held w <ℤ pos (2 ^ 63)
 
 -- no component is below 0
 pub record NoneBelow (x : List ℤ) : Type 0 where

@@ -4,5 +4,6 @@ pub mod narrow;
 pub mod operations;
 pub mod pass;
 pub mod row;
+pub mod short;
 pub mod state;
 pub mod tested;

@@ -7,7 +7,7 @@ use Prim.Native.Nat.{ℕ, zero, suc, _+_, _-_, _*_, _≤_, _<_}
 use native.Mathlib.Omega.{arith}
 use native.Mathlib.Nat.{zero-add}
 use native.Mathlib.Decide.{ℕ-discrete}
-use lib.IntN.{ℤ, pos, _+ℤ_, _-ℤ_, +ℤ-comm}
+use lib.IntN.{ℤ, _+ℤ_, _-ℤ_}
 use lib.ListN.{length}
 use Rattle.integer.proofs.Linear.{reading, ring, over}
 use Rattle.interval.specs.declared.Interval.{Interval}
@@ -18,25 +18,11 @@ use Rattle.inputs.specs.Place.{at, put, cell}
 use Rattle.inputs.specs.System.{System}
 use Rattle.inputs.proofs.Place.{at-put-same, at-put-other}
 use Rattle.rows.specs.Sum.{exactly, once}
-use Rattle.rows.proofs.Exact.{sum-assoc, exactly-parts, exactly-shift}
+use Rattle.rows.proofs.Exact.{exactly-from, exactly-parts, exactly-shift}
 use Rattle.sweep.specs.Pass.{component}
 use Rattle.half_rows.specs.Rows.{first, beside, side, joined, exchanged}
 
 -- ---- exact sums
-sum-comm : (u v : Interval) → exactSum u v ≡ exactSum v u
-unfolding exactSum
-sum-comm u v = same-ends _ _ (+ℤ-comm (u .lo) (v .lo)) (+ℤ-comm (u .hi) (v .hi))
-
-sum-nought : (u : Interval) → exactSum u interval.zero ≡ u
-unfolding exactSum
-sum-nought u = same-ends _ _ (go (u .lo)) (go (u .hi))
-  where
-    go : (a : ℤ) → a +ℤ pos 0 ≡ a
-    go = over 1 _ (λ ρ. simp (reading, ρ) (ring _ _ _ tt))
-
-nought-sum : (u : Interval) → exactSum interval.zero u ≡ u
-nought-sum u = sum-comm interval.zero u ∙ sum-nought u
-
 -- the outer two of three change places
 outer-two : (u v w : Interval) → exactSum (exactSum u v) w ≡ exactSum (exactSum w v) u
 unfolding exactSum
@@ -55,15 +41,6 @@ traded a n o t = same-ends _ _ (go (a .lo) (n .lo) (o .lo) (t .lo)) (go (a .hi) 
 
 -- ---- a row's products
 module _ (m : List ℤ) (p : ℕ) (x : List ℤ) (q : ℕ) where
-  -- what is there before them
-  exactly-from : (d j : ℕ) (acc : Interval) → exactly m p x q d j acc ≡ exactSum acc (exactly m p x q d j interval.zero)
-  unfolding exactly
-  exactly-from zero j acc = sym (sum-nought acc)
-  exactly-from (suc d) j acc =
-      let v = exactProduct (at m (p + j)) (at x (q + j)) in
-      exactly-from d (j + 1) (exactSum acc v) ∙ sum-assoc acc v _
-      ∙ ap (exactSum acc) (sym (exactly-from d (j + 1) (exactSum interval.zero v) ∙ rw (nought-sum v)))
-
   -- a component that is not read
   exactly-other : (r : ℕ) (w : Interval) (d j : ℕ) (acc : Interval) → ((l : ℕ) → l < d → q + (j + l) ≢ r)
       → exactly m p (put x r w) q d j acc ≡ exactly m p x q d j acc

@@ -4,10 +4,10 @@ use mathlib.Core.List.{List}
 use Prim.Native.Nat.{ℕ, zero, suc, _+_, _-_, _≤_, _<_}
 use native.Mathlib.Omega.{arith}
 use native.Mathlib.Nat.{zero-add}
-use lib.IntN.{ℤ, _+ℤ_}
+use lib.IntN.{ℤ, pos, _+ℤ_, +ℤ-comm}
 use Rattle.integer.proofs.Linear.{reading, ring, over}
 use Rattle.interval.specs.declared.Interval.{Interval}
-use Rattle.interval.specs.Interval.{exactSum, exactProduct}
+use Rattle.interval.specs.Interval.{zero as zeroInterval, exactSum, exactProduct}
 use Rattle.interval.proofs.Range.{same-ends}
 use Rattle.inputs.specs.Place.{at}
 use Rattle.rows.specs.Sum.{exactly}
@@ -56,8 +56,32 @@ module _ (m : List ℤ) (p : ℕ) (x : List ℤ) (q d : ℕ) where
       exactly-go j acc (omega arith) ∙ exactly-go (j + 1) _ h
       ∙ rw (e, f, g, two-products m (p + j) x (q + j) acc) (ap (exactly m p x q (d - (j + 2)) (j + 2)) (sum-assoc _ _ _))
 
+-- ---- nought
+sum-comm : (u v : Interval) → exactSum u v ≡ exactSum v u
+unfolding exactSum
+sum-comm u v = same-ends _ _ (+ℤ-comm (u .lo) (v .lo)) (+ℤ-comm (u .hi) (v .hi))
+
+pub sum-nought : (u : Interval) → exactSum u zeroInterval ≡ u
+unfolding exactSum
+sum-nought u = same-ends _ _ (go (u .lo)) (go (u .hi))
+  where
+    go : (a : ℤ) → a +ℤ pos 0 ≡ a
+    go = over 1 _ (λ ρ. simp (reading, ρ) (ring _ _ _ tt))
+
+pub nought-sum : (u : Interval) → exactSum zeroInterval u ≡ u
+nought-sum u = sum-comm zeroInterval u ∙ sum-nought u
+
 -- ---- parts of a row
 module _ (m : List ℤ) (p : ℕ) (x : List ℤ) (q : ℕ) where
+  -- what is there before them
+  pub exactly-from : (d j : ℕ) (acc : Interval) → exactly m p x q d j acc ≡ exactSum acc (exactly m p x q d j zeroInterval)
+  unfolding exactly
+  exactly-from zero j acc = sym (sum-nought acc)
+  exactly-from (suc d) j acc =
+      let v = exactProduct (at m (p + j)) (at x (q + j)) in
+      exactly-from d (j + 1) (exactSum acc v) ∙ sum-assoc acc v _
+      ∙ ap (exactSum acc) (sym (exactly-from d (j + 1) (exactSum zeroInterval v) ∙ rw (nought-sum v)))
+
   -- one part after the other
   pub exactly-parts : (d e j : ℕ) (acc : Interval) → exactly m p x q (d + e) j acc ≡ exactly m p x q e (j + d) (exactly m p x q d j acc)
   unfolding exactly

@@ -1,3 +1,4 @@
+use crate::internal::short::rounded_any;
 use crate::internal::tested::Tested;
 use crate::internal::tested::next_single;
 use crate::internal::tested::tested_sum;
@@ -8,7 +9,6 @@ use interval::internal::sum;
 use kept_sums::internal::read_sum;
 use kept_sums::internal::sum_ready;
 use wide_sum::WideInterval;
-use wide_sum::internal::rounding::rounded;
 use wide_sum::internal::sum::joined_both;
 use wide_sum::internal::sum::nought;
 ghost use mathlib.Core.Path.{_≡_};
@@ -72,7 +72,7 @@ fn joined_row(i: usize, r: &[i64], kept: &[i64], x: &[i64], known: WideInterval)
         ⌝ }
 {
     let k = read_sum(kept, i);
-    let t = rounded(joined_both(known, k));
+    let t = rounded_any(joined_both(known, k));
     let b = read(r, i);
     let old = read(x, i);
     intersection(sum(b, t), old)

@@ -4,10 +4,12 @@ use inputs::internal::intervals;
 use inputs::internal::read;
 use interval::Interval;
 use interval::internal::is_acceptable;
+use interval::internal::product::product_above;
+use interval::internal::sum as add;
 use rows::internal::exact_sum;
 use rows::internal::next::next_one;
-use rows::internal::next::two_above;
 use wide_sum::WideInterval;
+use wide_sum::internal::sum::raised_both;
 ghost use mathlib.Core.Path.{_≡_};
 ghost use mathlib.Core.Bool.{true};
 ghost use Prim.Native.Nat.{_+_, _*_, _≤_, _<_};
@@ -18,7 +20,7 @@ ghost use Rattle.interval.specs.Interval.{acceptable};
 ghost use Rattle.inputs.specs.Place.{at};
 ghost use Rattle.inputs.specs.Code.{Sound};
 ghost use Rattle.wide_sum.specs.Code.{NearBoth};
-ghost use Rattle.half_rows.specs.Code.{NoneBelow, PairAbove, SumAbove, SumTested};
+ghost use Rattle.half_rows.specs.Code.{Modest, SumModest, NextAbove, NoneBelow, SumAbove, SumTested};
 
 // The sum, or a share that is no interval.
 pub enum Tested {
@@ -26,30 +28,27 @@ pub enum Tested {
     Sum(WideInterval),
 }
 
-// Whether a share is an interval that is not below 0, as shares are: three tests.
-fn share_above(g: &[i64], p: usize) -> bool
-    requires { ⌜ 2 * p + 1 < length (now g) ⌝ }
-    ensures { λ r. ⌜ (r ≡ true → (acceptable (at (now (g .entry)) p) ≡ true) × (pos 0 ≤ℤ at (now (g .entry)) p .lo)) ⌝ }
+// Whether a share is an interval, not below 0 and at most 2^24 units, as the shares of a vat are: 32 products of such with components then fit 64 bits.
+fn is_modest(a: Interval) -> bool
+    ensures { λ r. ⌜ (r ≡ true → Modest a) ⌝ }
 {
-    let a = read(g, p);
     if a.lo < 0 {
         return false;
     }
     if a.hi < a.lo {
         return false;
     }
-    a.hi <= Interval::HIGHEST
+    a.hi <= 16_777_216
 }
 
-// Whether both shares of g are.
-fn pair_above(g: &[i64]) -> bool
-    requires { ⌜ length (now g) ≡ 4 ⌝ }
-    ensures { λ r. ⌜ (r ≡ true → PairAbove (now (g .entry))) ⌝ }
+// sum and the product of a modest share with a component that is not below 0.
+fn next_above(sum: Interval, a: Interval, b: Interval) -> Interval
+    requires { ⌜ Modest a × (acceptable b ≡ true) × (pos 0 ≤ℤ b .lo) ⌝ }
+    requires { ⌜ SumModest 31 sum ⌝ }
+    ensures { λ r. ⌜ NextAbove sum a b r ⌝ }
 {
-    if share_above(g, 0) {
-        return share_above(g, 1);
-    }
-    false
+    let u = product_above(a, b);
+    add(sum, u)
 }
 
 // Whether no component of x is below 0. A pass never lowers a lower end, so this is asked once a pass.
@@ -79,27 +78,25 @@ pub fn next_single(acc: WideInterval, g: &[i64], x: &[i64], q: usize) -> Tested
     Tested::Sum(next_one(acc, g, 0, x, q))
 }
 
-// acc and the d products of the shares of h from position p on with x from position q on, if no share is below 0. Else the answer says nothing. The loop calls no
-// function that is not inlined, so that the sum stays in registers.
+// acc and the d products of the shares of h from position p on with x from position q on, if all shares are modest. Else the answer says nothing.
 fn sum_above(acc: WideInterval, h: &[i64], p: usize, x: &[i64], q: usize, d: usize) -> Tested
     requires { ⌜ NearBoth 900 acc × NoneBelow (now x) ⌝ }
     requires { ⌜ (2 * (p + d) ≤ length (now h)) × Sound (now x) × (2 * (q + d) ≤ length (now x)) × (d ≤ 32) ⌝ }
     ensures { λ r. ⌜ SumAbove acc (now (h .entry)) p (now (x .entry)) q d r ⌝ }
 {
-    let mut sum = acc;
-    let k = d / 2;
-    for j in 0..k {
-        let a = 2 * (p + 2 * j);
-        if !pair_above(&h[a..a + 4]) {
+    if d < 1 {
+        return Tested::Sum(acc);
+    }
+    let mut sum = Interval::ZERO;
+    for j in 0..d {
+        let a = read(h, p + j);
+        if !is_modest(a) {
             return Tested::Ill;
         }
-        sum = two_above(sum, &h[a..a + 4], 0, x, q + 2 * j);
+        let b = read(x, q + j);
+        sum = next_above(sum, a, b);
     }
-    if 2 * k < d {
-        let a = 2 * (p + 2 * k);
-        return next_single(sum, &h[a..a + 2], x, q + 2 * k);
-    }
-    Tested::Sum(sum)
+    Tested::Sum(raised_both(acc, sum))
 }
 
 // acc and the d products of the shares of g, of any sign.

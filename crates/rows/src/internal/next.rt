@@ -65,7 +65,7 @@ fn product_above_at(m: &[i64], p: usize, x: &[i64], q: usize) -> Interval
 }
 
 // acc and the next two products, of factors that are not below 0, as shares and weights are. Two products together fit 64 bits.
-pub fn two_above(acc: WideInterval, m: &[i64], p: usize, x: &[i64], q: usize) -> WideInterval
+fn two_above(acc: WideInterval, m: &[i64], p: usize, x: &[i64], q: usize) -> WideInterval
     requires { ⌜ NearBoth 1_000 acc ⌝ }
     requires { ⌜ Sound (now m) × Sound (now x) ⌝ }
     requires { ⌜ (2 * (p + 2) ≤ length (now m)) × (2 * (q + 2) ≤ length (now x)) ⌝ }

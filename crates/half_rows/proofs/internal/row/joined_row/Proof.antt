@@ -14,8 +14,8 @@ read-sum-requires c κs = search needs
 joined-both-requires : tie.Need-joined-both-requires
 joined-both-requires c κs = (near-both-more (omega arith) (c .before .pre .1 .1), near-both-more (omega arith) (c .read-sum .ensures .1))
 
-rounded-requires : tie.Need-rounded-requires
-rounded-requires c κs = search needs
+rounded-any-requires : tie.Need-rounded-any-requires
+rounded-any-requires c κs = search needs
 
 read-requires : tie.Need-read-requires
 read-requires c κs = search needs
@@ -27,7 +27,7 @@ sum-requires : tie.Need-sum-requires
 sum-requires c κs =
     let t = c .before .before in
     let s = t .before .before .before in
-    component-fits (c .before .read .ensures) (s .pre .0 .2 .each _) (t .rounded .ensures .1) (t .rounded .ensures .2)
+    component-fits (c .before .read .ensures) (s .pre .0 .2 .each _) (t .rounded-any .ensures .1) (t .rounded-any .ensures .2)
 
 intersection-requires : tie.Need-intersection-requires
 intersection-requires c κs = search needs
@@ -41,7 +41,7 @@ returns c =
     let k = j .before in
     c .intersection .ensures
     ∙ ap₂ intersection
-    (v .sum .ensures ∙ ap₂ exactSum (o .before .read .ensures) (t .rounded .ensures .0 ∙ ap (rounded scale) (j .joined-both .ensures .is ∙ ap (exactSum (heldBoth (k .before .args .known))) (k .read-sum .ensures .0))))
+    (v .sum .ensures ∙ ap₂ exactSum (o .before .read .ensures) (t .rounded-any .ensures .0 ∙ ap (rounded scale) (j .joined-both .ensures .is ∙ ap (exactSum (heldBoth (k .before .args .known))) (k .read-sum .ensures .0))))
     (o .read2 .ensures)
 
 pub joined-row-spec : {M : Type 1} → statement M
@@ -50,7 +50,7 @@ joined-row-spec =
     (tie.spec
     read-sum-requires
     joined-both-requires
-    rounded-requires
+    rounded-any-requires
     read-requires
     read-requires-2
     sum-requires
