@@ -3,7 +3,7 @@ pub mod internal;
 
 use crate::internal::load::load_into;
 use crate::internal::operations::half;
-use crate::internal::operations::narrow as narrow_vat;
+use crate::internal::operations::narrow as narrow_component;
 use crate::internal::state::LENGTH;
 use crate::internal::state::due;
 use crate::internal::state::size;
@@ -71,8 +71,8 @@ pub fn half_down(state: &mut [i64]) -> Outcome
 }
 
 // Narrows one vat, from 1, by a weighed interval.
-pub fn narrow(state: &mut [i64], vat: usize, lo: i64, hi: i64) -> Outcome
-    ensures { λ r. ⌜ returned r 0 (now (state .exit)) ≡ operate (narrowing vat (ends lo hi)) (now (state .entry)) ⌝ }
+pub fn narrow(state: &mut [i64], component: usize, lo: i64, hi: i64) -> Outcome
+    ensures { λ r. ⌜ returned r 0 (now (state .exit)) ≡ operate (narrowing component (ends lo hi)) (now (state .entry)) ⌝ }
 {
     let n = size(state);
     if n == 0 {
@@ -82,10 +82,10 @@ pub fn narrow(state: &mut [i64], vat: usize, lo: i64, hi: i64) -> Outcome
     if next == 0 {
         return Outcome::NotDue;
     }
-    if vat < 1 {
+    if component < 1 {
         return Outcome::NoComponent;
     }
-    if n < vat {
+    if n < component {
         return Outcome::NoComponent;
     }
     let w = Interval { lo, hi };
@@ -95,11 +95,11 @@ pub fn narrow(state: &mut [i64], vat: usize, lo: i64, hi: i64) -> Outcome
     let mut x = [0i64; 64];
     let mut sums = [0i64; 128];
     let back = next == due(true);
-    narrow_vat(
+    narrow_component(
         n,
         back,
         state,
-        vat - 1,
+        component - 1,
         w,
         &mut x[..2 * n],
         &mut sums[..4 * n],

@@ -79,10 +79,10 @@ weighed : (c : tie.After-is-acceptable) → let s = c .before .before .before .b
 weighed c = sym (c .is-acceptable .ensures ∙ ap acceptable (weighed-is (c .before .before .before .before .before .before .before .before .before)))
 
 -- the vat is one of them
-some : (c : tie.Else3) → 1 ≤ c .before .before .before .before .before .before .before .args .vat
+some : (c : tie.Else3) → 1 ≤ c .before .before .before .before .before .before .before .args .component
 some c = omega (arith, c .if3 .left)
 
-within : (c : tie.Else4) → c .before .before .before .before .before .before .before .before .args .vat ≤ sizeOf (now (c .before .before .before .before .before .before .before .before .args .state))
+within : (c : tie.Else4) → c .before .before .before .before .before .before .before .before .args .component ≤ sizeOf (now (c .before .before .before .before .before .before .before .before .args .state))
 within c = omega (arith, c .if4 .left, c .before .before .before .before .before .before .size .ensures)
 
 returns-5 : tie.Need-returns-5
@@ -130,7 +130,7 @@ returns-6 c =
     let t = u .before in
     let l = t .before .before in
     let s = c .before .before .before .before .before .before .before .before .before .before .before .before .before .before .before .before .before .before in
-    narrow-goes (s .args .vat) (ends (s .args .lo) (s .args .hi)) (now (s .args .state)) (loaded l) (turned u) (some p) (within o) _ _
+    narrow-goes (s .args .component) (ends (s .args .lo) (s .args .hi)) (now (s .args .state)) (loaded l) (turned u) (some p) (within o) _ _
     (weighed a ∙ not-false _ (c .before .before .before .before .before .before .before .before .if5 .left)) (l .before .size .ensures) (ap₂ eqb (t .turn .ensures) (c .before .before .before .before .before .before .before .due .ensures)) (weighed-is s) (c .before .before .before .narrow .ensures)
 
 pub narrow-spec : {M : Type 1} → statement M

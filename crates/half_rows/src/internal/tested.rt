@@ -112,7 +112,7 @@ fn any_sum(acc: WideInterval, g: &[i64], x: &[i64], q: usize, d: usize) -> Teste
     Tested::Sum(exact_sum(acc, g, 0, x, q, d))
 }
 
-// The same, tried only if no component is below 0.
+// sum_above, tried only if no component is below 0.
 fn tried_sum(
     above: bool,
     acc: WideInterval,
