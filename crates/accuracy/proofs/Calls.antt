@@ -18,7 +18,7 @@ use Rattle.rows.specs.Sum.{once}
 use Rattle.rows.proofs.Encloses.{once-encloses}
 use Rattle.sweep.specs.Pass.{differ}
 use Rattle.sweep.specs.Call.{Log, stopped, settled, spent, swept, after, sweeps, ending, last, concluded, tests}
-use Rattle.sweep.specs.Calls.{Call, sweepCall, symmetricCall, runBy, run, callBy, call, Change, sweepChanges, sweepsOf, changesBy, changes, anyEmptyBy, anyEmpty}
+use Rattle.sweep.specs.Calls.{Call, sweepCall, symmetricCall, runBy, run, returnedBy, call, Change, sweepChanges, sweepsOf, changesBy, changes, anyEmptyBy, anyEmpty}
 use Rattle.sweep.proofs.Tests as sweep
 use Rattle.sweep.proofs.Kept.{refused-not-empty}
 use Rattle.accuracy.specs.Claim.{Every}
@@ -115,7 +115,7 @@ module _ (s : System) where
 
   -- ---- what a call leaves, and what it says
   call-follows : (c : Call) (X : List ℤ) → Follows s X (call s c X .left)
-  unfolding callBy ended
+  unfolding returnedBy ended
   call-follows c X = go (run s c X) (on-run c X)
     where
       go : (a : Run Log) → OnRun X a → Follows s X (ended (concluded X) X a .left)
@@ -123,7 +123,7 @@ module _ (s : System) where
       go (done l) h = log-last l (follows-refl s X) (h .1)
 
   call-empty : {X₀ : List ℤ} (c : Call) (X : List ℤ) → Follows s X₀ X → T (eqb (call s c X .number) 7) → NoSolution s X₀
-  unfolding callBy ended
+  unfolding returnedBy ended
   call-empty {X₀} c X f = go (run s c X) (on-run c X)
     where
       go : (a : Run Log) → OnRun X a → T (eqb (ended (concluded X) X a .number) 7) → NoSolution s X₀

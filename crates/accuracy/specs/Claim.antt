@@ -1,5 +1,6 @@
 -- Document 01, The list in demand 3: the accuracy rule, one claim about a list of sweep calls of any length.
 use mathlib.Core.Path.{_≡_}
+use mathlib.Core.Bool.{Bool}
 use mathlib.Core.List.{List, [], _∷_}
 use Prim.Native.Nat.{ℕ, _<_}
 use lib.Dec.{T}
@@ -50,16 +51,16 @@ abbrev pub Every : (Change → Type 0) → List Change → Type 0
 Every P [] = Unit {0}
 Every P (c ∷ cs) = P c × Every P cs
 
--- the rule, for a system, a box to begin with, and any list of calls
-pub record Accuracy (s : System) (X : List ℤ) (start : Start s X) (calls : List Call) : Type 0 where
+-- the rule, for a system and a box to begin with, of the changes that a list of calls made to it; 'empty' is whether one of them returned 7
+pub record Accuracy (s : System) (X : List ℤ) (start : Start s X) (changes : List Change) (empty : Bool) : Type 0 where
   -- every solution lies within the bounds at the start, after every whole sweep and after every call
   pub bounded-at-start : (x : ℕ → Fraction) → Solution s x → Covered start x → Bounded (s .size) X x
-  pub bounded-after : (x : ℕ → Fraction) → Solution s x → Covered start x → Every (λ c. Bounded (s .size) (c .after) x) (changes s calls X)
+  pub bounded-after : (x : ℕ → Fraction) → Solution s x → Covered start x → Every (λ c. Bounded (s .size) (c .after) x) changes
   -- 'empty' is said only if no solution lies in the box that the list began with
-  pub empty-only : T (anyEmpty s calls X) → (x : ℕ → Fraction) → Solution s x → InBox (s .size) X x → ⊥
+  pub empty-only : T empty → (x : ℕ → Fraction) → Solution s x → InBox (s .size) X x → ⊥
   -- no sweep and no call widens a bound
-  pub never-wider : Every (λ c. Narrowed (s .size) (c .before) (c .after)) (changes s calls X)
+  pub never-wider : Every (λ c. Narrowed (s .size) (c .before) (c .after)) changes
 
 -- 'a single claim about the list, of any length': it holds for every balance, every box to begin with and every list of calls
 abbrev pub AccuracyRule : Type 0
-AccuracyRule = (s : System) (X : List ℤ) (start : Start s X) (calls : List Call) → Accuracy s X start calls
+AccuracyRule = (s : System) (X : List ℤ) (start : Start s X) (calls : List Call) → Accuracy s X start (changes s calls X) (anyEmpty s calls X)

@@ -14,7 +14,7 @@ use Rattle.inputs.specs.System.{System}
 use Rattle.rows.specs.Sum.{singly, once}
 use Rattle.sweep.specs.Pass.{sweep, symmetric}
 use Rattle.sweep.specs.Call.{Log, sweeps, concluded, tests}
-use Rattle.sweep.specs.Calls.{Call, sweepCall, symmetricCall, runBy, callBy, anyEmptyBy}
+use Rattle.sweep.specs.Calls.{Call, sweepCall, symmetricCall, runBy, callBy, returnedBy, anyEmptyBy}
 use Rattle.sweep.specs.Code.{Ready}
 use Rattle.sweep.proofs.Tests.{ready}
 use Rattle.sweep.proofs.Kept.{refused-not-empty}
@@ -78,22 +78,22 @@ module _ (s : System) (p q : List ℤ → Run (List ℤ))
 -- ---- the calls of the list, and the list
 module _ (s : System) where
   list-call : (c : Call) (X Y : List ℤ) → Carried (s .size) X Y → eqb (callBy once s c Y .number) 7 ≡ false → Called (s .size) (runBy singly s c X) X (runBy once s c Y) Y
-  unfolding callBy runBy
+  unfolding returnedBy runBy
   list-call (sweepCall k) X Y h e = called s (sweep singly s) (sweep once s) (λ Z w. sweep-inner singly-once s Z w) k X Y h e
   list-call (symmetricCall k) X Y h e = called s (symmetric singly s) (symmetric once s) (λ Z w. symmetric-inner singly-once s Z w) k X Y h e
 
-  list-not-empty : (cs : List Call) (X Y : List ℤ) → Carried (s .size) X Y → anyEmptyBy once s cs Y ≡ false → anyEmptyBy singly s cs X ≡ false
-  unfolding anyEmptyBy callBy
+  list-not-empty : (cs : List Call) (X Y : List ℤ) → Carried (s .size) X Y → anyEmptyBy (runBy once s) cs Y ≡ false → anyEmptyBy (runBy singly s) cs X ≡ false
+  unfolding anyEmptyBy returnedBy
   list-not-empty [] X Y h e = refl
   list-not-empty (c ∷ cs) X Y h e =
       let a = or-false (eqb (callBy once s c Y .number) 7) _ e in
       let r = list-call c X Y h (a .0) in
       rw (r .not-empty) (list-not-empty cs _ _ (r .left) (a .1))
 
-  list-boxes : (cs : List Call) (X Y : List ℤ) → Carried (s .size) X Y → anyEmptyBy once s cs Y ≡ false → (i j : ℕ) → Narrowed (s .size) (boxIn singly s cs i j X) (boxIn once s cs i j Y)
-  unfolding anyEmptyBy callBy boxIn
+  list-boxes : (cs : List Call) (X Y : List ℤ) → Carried (s .size) X Y → anyEmptyBy (runBy once s) cs Y ≡ false → (i j : ℕ) → Narrowed (s .size) (boxIn singly s cs i j X) (boxIn once s cs i j Y)
+  unfolding anyEmptyBy returnedBy boxIn
   list-boxes [] X Y h e i j = narrowed h
-  list-boxes (c ∷ cs) X Y h e zero j = list-call c X Y h (or-false _ (anyEmptyBy once s cs _) e .0) .boxes j
+  list-boxes (c ∷ cs) X Y h e zero j = list-call c X Y h (or-false _ (anyEmptyBy (runBy once s) cs _) e .0) .boxes j
   list-boxes (c ∷ cs) X Y h e (suc i) j =
       let a = or-false (eqb (callBy once s c Y .number) 7) _ e in
       list-boxes cs _ _ (list-call c X Y h (a .0) .left) (a .1) i j

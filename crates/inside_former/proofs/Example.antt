@@ -9,9 +9,9 @@ use Rattle.inputs.specs.Tests.{both, need, sized, lengths, sizes, proper, allPr
 use Rattle.rows.specs.Sum.{exactly, once, summed, singly}
 use Rattle.sweep.specs.Pass.{component, along, up, sweep, differs, differ}
 use Rattle.sweep.specs.Call.{sweeps, allowance, tests}
-use Rattle.sweep.specs.Calls.{runBy, callBy}
+use Rattle.sweep.specs.Calls.{runBy, returnedBy}
 use Rattle.inside_former.specs.Example.{SevenCanBeNew}
 
 pub seven-can-be-new : SevenCanBeNew
-unfolding floorDiv ceilDiv minimum maximum ended scale lowest highest within inRange acceptable exactSum intersection isEmpty exactProduct rounded productAt at put both need sized lengths sizes proper allProper tested exactly once summed singly component along up sweep differs differ sweeps allowance tests runBy callBy
+unfolding floorDiv ceilDiv minimum maximum ended scale lowest highest within inRange acceptable exactSum intersection isEmpty exactProduct rounded productAt at put both need sized lengths sizes proper allProper tested exactly once summed singly component along up sweep differs differ sweeps allowance tests runBy returnedBy
 seven-can-be-new = record { before = refl; now = refl }

@@ -37,7 +37,7 @@ boxIn sum s (c ∷ cs) (suc i) j X = boxIn sum s cs i j (callBy sum s c X .left)
 -- the former calculation from X, the new one from Y: where the new one says no 7, the former says none, and every box lies inside the
 -- former one
 pub record Inside (s : System) (X Y : List ℤ) : Type 0 where
-  pub not-empty : (calls : List Call) → anyEmpty s calls Y ≡ false → anyEmptyBy singly s calls X ≡ false
+  pub not-empty : (calls : List Call) → anyEmpty s calls Y ≡ false → anyEmptyBy (runBy singly s) calls X ≡ false
   pub boxes :
       (calls : List Call) → anyEmpty s calls Y ≡ false → (i j : ℕ) →
       Narrowed (s .size) (boxIn singly s calls i j X) (boxIn once s calls i j Y)

@@ -9,18 +9,18 @@ use lib.IntN.{ℤ}
 use Rattle.inputs.specs.System.{System}
 use Rattle.rows.specs.Sum.{once}
 use Rattle.sweep.specs.Pass.{sweep, symmetric}
-use Rattle.sweep.specs.Calls.{sweepCall, symmetricCall, runBy, run, callBy, call}
+use Rattle.sweep.specs.Calls.{sweepCall, symmetricCall, runBy, run, returnedBy, call}
 use Rattle.inside_former.proofs.Calls.{Called, same, called, narrowed}
 use Rattle.inside_ordinary.specs.Passes.{Inside, InsideOrdinary}
 use Rattle.inside_ordinary.proofs.Pass.{pass-inner}
 
 module _ (s : System) (k : ℕ) (X : List ℤ) where
   beside : eqb (call s (symmetricCall k) X .number) 7 ≡ false → Called (s .size) (run s (sweepCall k) X) X (run s (symmetricCall k) X) X
-  unfolding callBy runBy
+  unfolding returnedBy runBy
   beside e = called s (sweep once s) (symmetric once s) (λ Z w. pass-inner s Z w) k X X (same refl) e
 
   refused-too : call s (sweepCall k) X .number ≡ 7 → call s (symmetricCall k) X .number ≡ 7
-  unfolding callBy
+  unfolding returnedBy
   refused-too e = go (eqb (call s (symmetricCall k) X .number) 7) refl
     where
       go : (t : Bool) → eqb (call s (symmetricCall k) X .number) 7 ≡ t → call s (symmetricCall k) X .number ≡ 7
@@ -28,7 +28,7 @@ module _ (s : System) (k : ℕ) (X : List ℤ) where
       go false f = absurd (subst T (sym (eq-eqb _ 7 e) ∙ beside f .not-empty) tt)
 
   inside : Inside s k X
-  unfolding callBy
+  unfolding returnedBy
   inside =
       record {
         boxes = λ h j. beside (ne-eqb _ 7 h) .boxes j;

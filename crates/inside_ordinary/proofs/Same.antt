@@ -24,7 +24,7 @@ use Rattle.inputs.proofs.Place.{numbers-is}
 use Rattle.rows.specs.Sum.{once}
 use Rattle.sweep.specs.Pass.{component, along, up, down, sweep, symmetric, differ}
 use Rattle.sweep.specs.Call.{Log, settled, after, sweeps, ending, last, concluded, tests}
-use Rattle.sweep.specs.Calls.{runBy, callBy}
+use Rattle.sweep.specs.Calls.{runBy, returnedBy}
 use Rattle.sweep.specs.Code.{Ready}
 use Rattle.sweep.proofs.Tests.{ready}
 use Rattle.sweep.proofs.Kept.{early-tests}
@@ -154,7 +154,7 @@ module _ (s : System) (Z : List ℤ) (tested : Ready (s .size) (s .matrix) (s .r
 
 -- ---- the calls: 0 comes from no test
 pub same-settled : SameSettled
-unfolding callBy runBy tests.tested ended
+unfolding returnedBy runBy tests.tested ended
 same-settled s k j X = go (tests s k X) refl (early-tests s k X) (tests s j X) refl (early-tests s j X)
   where
     n : ℕ

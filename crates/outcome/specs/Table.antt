@@ -1,8 +1,8 @@
--- Document 01, Outcomes: the table, row by row; then the rows that document 02 adds, in A2 and A6.
+-- Document 01, Outcomes: the table, row by row; then the rows that document 02 adds, in A2, A6 and A7.
 use Prim.Native.Nat.{ℕ}
 use Rattle.outcome.specs.declared.Outcome.{Outcome}
 use Rattle.outcome.specs.declared.Outcome.the-variants.{Done, Spent, Size, Length, Allowed, Ends}
-use Rattle.outcome.specs.declared.Outcome.the-variants.{ContainsZero, OutOfRange, Empty, Text, Sums, NotDue, NoComponent}
+use Rattle.outcome.specs.declared.Outcome.the-variants.{ContainsZero, OutOfRange, Empty, Text, Sums, NotDue, NoComponent, OutOfMatrix, OutOfOrder}
 
 -- what is returned, and the place returned
 pub record Row : Type 0 where
@@ -26,3 +26,5 @@ numberAndPlace (Text line) = row 8 line
 numberAndPlace Sums = row 10 0
 numberAndPlace NotDue = row 19 0
 numberAndPlace NoComponent = row 20 0
+numberAndPlace (OutOfMatrix r) = row 11 r
+numberAndPlace (OutOfOrder r) = row 12 r

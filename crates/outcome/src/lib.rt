@@ -1,7 +1,7 @@
 ghost use mathlib.Core.Path.{_≡_};
 ghost use Rattle.outcome.specs.Table.{numberAndPlace};
 
-// How a call ends: document 01, Outcomes, with the numbers that document 02 adds: 10 in A2, 19 and 20 in A6. Each case carries the place that its row of the table names; numberAndPlace, in specs/, gives the numbers.
+// How a call ends: document 01, Outcomes, with the numbers that document 02 adds: 10 in A2, 19 and 20 in A6, 11 and 12 in A7. Each case carries the place that its row of the table names; numberAndPlace, in specs/, gives the numbers.
 // The count of sweeps stands beside an outcome, not in it.
 pub enum Outcome {
     // done, or settled
@@ -29,6 +29,10 @@ pub enum Outcome {
     NotDue,
     // a narrowed component outside 1 to n
     NoComponent,
+    // a row or column outside 1 to n, in this record
+    OutOfMatrix(usize),
+    // this record does not come after the one before it
+    OutOfOrder(usize),
 }
 
 impl Outcome {
@@ -50,6 +54,8 @@ impl Outcome {
             Outcome::Sums => 10,
             Outcome::NotDue => 19,
             Outcome::NoComponent => 20,
+            Outcome::OutOfMatrix(_) => 11,
+            Outcome::OutOfOrder(_) => 12,
         }
     }
 
@@ -71,6 +77,8 @@ impl Outcome {
             Outcome::Sums => 0,
             Outcome::NotDue => 0,
             Outcome::NoComponent => 0,
+            Outcome::OutOfMatrix(record) => record,
+            Outcome::OutOfOrder(record) => record,
         }
     }
 }

@@ -18,7 +18,7 @@ use Rattle.forward.specs.Formed.{identity, formedRow, formedRows}
 use Rattle.elimination.specs.Call as elimination
 use Rattle.sweep.specs.Pass as pass
 use Rattle.sweep.specs.Call as swept
-use Rattle.sweep.specs.Calls.{runBy, callBy}
+use Rattle.sweep.specs.Calls.{runBy, returnedBy}
 use Rattle.text.specs.Bytes.{bytes}
 use Rattle.text.specs.Parts.{longer, parts}
 use Rattle.text.specs.Number.{isDigit, digits, plain, magnitude, below, number, bothEnds, value, then, values}
@@ -31,7 +31,7 @@ use Rattle.samples.specs.Table.{Agrees}
 use Rattle.samples.specs.Sheet.{Prints}
 
 all : Agrees × Prints
-unfolding bind floorDiv ceilDiv minimum maximum andThen ended scale lowest highest within inRange acceptable containsZero exactSum exactDifference intersection isEmpty exactProduct rounded productAt quotientAt tested ranged divided at put tests.both tests.need tests.sized tests.lengths tests.sizes tests.proper tests.allProper tests.tested exactly once inRangeThen lowestFrom lowestRow inPlace exchanged swappedColumns swapped taking columns rightSide rows pivots forward numerator back identity formedRow formedRows elimination.copied elimination.box elimination.solved inputs.tests elimination.runA elimination.runB pass.component pass.along pass.up pass.sweep pass.differs pass.differ swept.sweeps swept.allowance swept.tests runBy callBy bytes longer parts isDigit digits plain magnitude below number bothEnds value then values nameByte allBytes isName same among eachName areNames text.firstLine text.head text.onLine text.before text.atEnd text.rowsFrom text.reading digitsWithin natural decimal bound further bounds settled counted calculated report.onward report.calculation report.solved report.reached report.sheet report.sheetOrRefusal report.printed
+unfolding bind floorDiv ceilDiv minimum maximum andThen ended scale lowest highest within inRange acceptable containsZero exactSum exactDifference intersection isEmpty exactProduct rounded productAt quotientAt tested ranged divided at put tests.both tests.need tests.sized tests.lengths tests.sizes tests.proper tests.allProper tests.tested exactly once inRangeThen lowestFrom lowestRow inPlace exchanged swappedColumns swapped taking columns rightSide rows pivots forward numerator back identity formedRow formedRows elimination.copied elimination.box elimination.solved inputs.tests elimination.runA elimination.runB pass.component pass.along pass.up pass.sweep pass.differs pass.differ swept.sweeps swept.allowance swept.tests runBy returnedBy bytes longer parts isDigit digits plain magnitude below number bothEnds value then values nameByte allBytes isName same among eachName areNames text.firstLine text.head text.onLine text.before text.atEnd text.rowsFrom text.reading digitsWithin natural decimal bound further bounds settled counted calculated report.onward report.calculation report.solved report.reached report.sheet report.sheetOrRefusal report.printed
 all = ((refl, (refl, (refl, (refl, (refl, (refl, (refl, (refl, (refl, (refl, (refl, (refl, (refl, (refl, (refl, (refl, (refl, (refl, tt)))))))))))))))))), refl)
 
 pub agree : Agrees

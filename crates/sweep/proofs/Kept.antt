@@ -23,7 +23,7 @@ use Rattle.inputs.proofs.Early.{Early, parts, early-sizes, early-all, early-num
 use Rattle.rows.specs.Sum.{RowSum, once}
 use Rattle.sweep.specs.Pass.{component, along, up, down, sweep, symmetric, differ}
 use Rattle.sweep.specs.Call.{Log, settled, after, sweeps, last, concluded, allowance, tests}
-use Rattle.sweep.specs.Calls.{Call, sweepCall, symmetricCall, runOver, runBy, callBy, call}
+use Rattle.sweep.specs.Calls.{Call, sweepCall, symmetricCall, runOver, runBy, returnedBy, call}
 use Rattle.sweep.specs.Code.{Ready}
 use Rattle.sweep.proofs.Tests.{ready, fits}
 use Rattle.sweep.proofs.Turns.{Below, sweep-below, symmetric-below, symmetric-along}
@@ -91,7 +91,7 @@ run-keeps s p keeps k x e = go (tests s k x) refl (early-tests s k x) e
 
 pub call-keeps : (s : System) (c : Call) (x : List ℤ) → (call s c x .number ≡ 0) ⊎ (call s c x .number ≡ 9)
     → (1 ≤ s .size) × Ready (s .size) (s .matrix) (s .right) (call s c x .left)
-unfolding callBy runBy sweep
+unfolding returnedBy runBy sweep
 call-keeps s (sweepCall k) x e = run-keeps s (sweep once s) (λ y. along-keeps (s .size) (s .matrix) (s .right) once (up (s .size) 0) y (sweep-below (s .size))) k x e
 call-keeps s (symmetricCall k) x e =
     run-keeps s (symmetric once s)

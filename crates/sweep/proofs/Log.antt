@@ -22,7 +22,7 @@ use Rattle.sweep.specs.declared.internal.pass.OnePass.{OnePass}
 use Rattle.sweep.specs.declared.internal.pass.OnePass.the-variants.{Empty, Whole}
 use Rattle.sweep.specs.Pass.{differ}
 use Rattle.sweep.specs.Call.{Log, stopped, settled, spent, swept, sweeps, count, ending, last, concluded}
-use Rattle.sweep.specs.Calls.{sweepCall, symmetricCall, runOver, runBy, callBy, call}
+use Rattle.sweep.specs.Calls.{sweepCall, symmetricCall, runOver, runBy, returnedBy, call}
 use Rattle.sweep.specs.Code.{runOf, Flagged, Passed, Logged, Ran, callOver}
 use Rattle.sweep.proofs.Turns.{pass-sweep, pass-symmetric}
 
@@ -130,9 +130,9 @@ module _ (t : Test) (l : Log) (x : List ℤ) where
 -- ---- the two calls, by the halves of their passes
 module _ (s : System) (k : ℕ) (x : List ℤ) where
   pub sweep-called : callOver 1 s k x ≡ call s (sweepCall k) x
-  unfolding callOver callBy runBy
+  unfolding callOver returnedBy runBy
   sweep-called = ap (λ p. ended (concluded x) x (runOver p s k x)) (pass-sweep s)
 
   pub symmetric-called : callOver 2 s k x ≡ call s (symmetricCall k) x
-  unfolding callOver callBy runBy
+  unfolding callOver returnedBy runBy
   symmetric-called = ap (λ p. ended (concluded x) x (runOver p s k x)) (pass-symmetric s)

@@ -26,9 +26,12 @@ unfoldable pub runBy : RowSum → System → Call → List ℤ → Run Log
 runBy sum s (sweepCall k) X = runOver (sweep sum s) s k X
 runBy sum s (symmetricCall k) X = runOver (symmetric sum s) s k X
 
--- what it returns, and what it leaves in the lent box
-unfoldable pub callBy : RowSum → System → Call → List ℤ → Returned (List ℤ)
-callBy sum s c X = ended (concluded X) X (runBy sum s c X)
+-- what a call returns, and what it leaves in the lent box, whatever its run is
+unfoldable pub returnedBy : (Call → List ℤ → Run Log) → Call → List ℤ → Returned (List ℤ)
+returnedBy run c X = ended (concluded X) X (run c X)
+
+abbrev pub callBy : RowSum → System → Call → List ℤ → Returned (List ℤ)
+callBy sum s = returnedBy (runBy sum s)
 
 -- a box before and after a whole sweep, or before and after a call
 pub record Change : Type 0 where
@@ -47,15 +50,15 @@ sweepsOf (refused o) X = []
 sweepsOf (done l) X = sweepChanges l X
 
 -- 'Each call gets the box as the one before left it, after a refusal unchanged, and the list goes on'
-unfoldable pub changesBy : RowSum → System → List Call → List ℤ → List Change
-changesBy sum s [] X = []
-changesBy sum s (c ∷ cs) X =
-    sweepsOf (runBy sum s c X) X ++ (record { before = X; after = callBy sum s c X .left } ∷ changesBy sum s cs (callBy sum s c X .left))
+unfoldable pub changesBy : (Call → List ℤ → Run Log) → List Call → List ℤ → List Change
+changesBy run [] X = []
+changesBy run (c ∷ cs) X =
+    sweepsOf (run c X) X ++ (record { before = X; after = returnedBy run c X .left } ∷ changesBy run cs (returnedBy run c X .left))
 
 -- ''Empty' is 7': a list with a call that returns it
-unfoldable pub anyEmptyBy : RowSum → System → List Call → List ℤ → Bool
-anyEmptyBy sum s [] X = false
-anyEmptyBy sum s (c ∷ cs) X = eqb (callBy sum s c X .number) 7 || anyEmptyBy sum s cs (callBy sum s c X .left)
+unfoldable pub anyEmptyBy : (Call → List ℤ → Run Log) → List Call → List ℤ → Bool
+anyEmptyBy run [] X = false
+anyEmptyBy run (c ∷ cs) X = eqb (returnedBy run c X .number) 7 || anyEmptyBy run cs (returnedBy run c X .left)
 
 -- the calls as they are: each row is rounded once
 abbrev pub run : System → Call → List ℤ → Run Log
@@ -65,7 +68,7 @@ abbrev pub call : System → Call → List ℤ → Returned (List ℤ)
 call = callBy once
 
 abbrev pub changes : System → List Call → List ℤ → List Change
-changes = changesBy once
+changes s = changesBy (run s)
 
 abbrev pub anyEmpty : System → List Call → List ℤ → Bool
-anyEmpty = anyEmptyBy once
+anyEmpty s = anyEmptyBy (run s)

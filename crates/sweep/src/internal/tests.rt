@@ -8,7 +8,7 @@ ghost use Rattle.inputs.specs.System.{system};
 ghost use Rattle.sweep.specs.Call.{allowance, tests};
 
 // Test 4, of the sweeps allowed.
-fn budget(allowed: usize) -> Test
+pub fn budget(allowed: usize) -> Test
     ensures { λ r. ⌜ r ≡ allowance allowed ⌝ }
 {
     if 1 <= allowed {
