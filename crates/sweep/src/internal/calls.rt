@@ -76,7 +76,14 @@ fn tighten(
 }
 
 // The passes, after the tests.
-pub fn run(n: usize, halves: usize, m: &[i64], r: &[i64], bounds: &mut [i64], allowed: usize) -> Swept
+pub fn run(
+    n: usize,
+    halves: usize,
+    m: &[i64],
+    r: &[i64],
+    bounds: &mut [i64],
+    allowed: usize,
+) -> Swept
     requires { ⌜ tests (system n (now m) (now r)) allowed (now bounds) ≡ Pass ⌝ }
     requires { ⌜ halves ≤ 2 ⌝ }
     ensures { λ s. ⌜

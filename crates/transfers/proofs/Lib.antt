@@ -1,0 +1,12 @@
+pub mod Records
+pub mod Tried
+pub mod Vat
+pub mod Order
+pub mod Filled
+pub mod Judged
+pub mod Good
+pub mod Entered
+pub mod Sizes
+pub mod Square
+pub mod Call
+pub mod Gathered

@@ -1,0 +1,5 @@
+pub mod calls;
+pub mod gather;
+pub mod gathered;
+pub mod square;
+pub mod tests;
