@@ -10,7 +10,7 @@ ghost use Rattle.sweep.specs.Calls.{sweepCall, symmetricCall, call};
 ghost use Rattle.capi.specs.Flat.{callOf};
 
 // The answer of either sweep call.
-fn flat(s: Swept) -> KifwalebOutcome
+pub(crate) fn flat(s: Swept) -> KifwalebOutcome
     ensures { λ r. ⌜ callOf r (s .count) ≡ returned (s .outcome) (s .count) (s .count) ⌝ }
 {
     let outcome = s.outcome;
