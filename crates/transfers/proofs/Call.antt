@@ -1,7 +1,7 @@
 -- The tests of a call from a list, one after the other; then the square's run.
 use mathlib.Core.Path.{_≡_, refl, sym, ap, _∙_}
 use mathlib.Core.List.{List, [], _∷_}
-use Prim.Native.Nat.{ℕ, _+_, _*_, _≤_}
+use Prim.Native.Nat.{ℕ, _+_, _*_}
 use lib.IntN.{ℤ, pos}
 use lib.ListN.{length, replicate}
 use Rattle.outcome.specs.declared.Outcome.{Outcome}
@@ -11,7 +11,6 @@ use Rattle.inputs.specs.declared.Test.the-variants.{Pass, Fail}
 use Rattle.inputs.specs.Tests.{both, proper, Part, allProper, tested}
 use Rattle.inputs.specs.System as inputs
 use Rattle.inputs.specs.Code.{Ended}
-use Rattle.inputs.proofs.Tests.{both-last}
 use Rattle.rows.specs.Sum.{once}
 use Rattle.forward.specs.Pivot.{lowestRow}
 use Rattle.forward.specs.Formed.{formedRows}
@@ -26,8 +25,8 @@ use Rattle.transfers.specs.declared.Transfer.{Transfer}
 use Rattle.transfers.specs.Listing.{Listing, sizes, entries, shares, intervals, filled, square, squared}
 use Rattle.transfers.specs.Call.{tests, sweepTests, runList, overList, sweepList, callList}
 use Rattle.transfers.specs.Code.{judgement, Entered, listOver}
-use Rattle.transfers.proofs.Judged.{Passed, passed}
-use Rattle.transfers.proofs.Sizes.{Fitting, fitting}
+use Rattle.transfers.proofs.Judged.{passed}
+use Rattle.transfers.proofs.Sizes.{fitting}
 use Rattle.transfers.proofs.Square.{square-tests, square-sweep-tests}
 
 -- ---- the records' tests, and then the intervals after them

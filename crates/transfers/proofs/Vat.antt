@@ -1,12 +1,11 @@
 -- Vat numbers as naturals.
-use mathlib.Core.Path.{_≡_, refl, sym, ap, ap₂, _∙_}
-use mathlib.Core.Bool.{Bool, true, false, _&&_}
-use Prim.Native.Nat.{ℕ, zero, suc, _+_, _-_, _*_, _≤_, _<_}
+use mathlib.Core.Path.{_≡_, ap, _∙_}
+use mathlib.Core.Bool.{true}
+use Prim.Native.Nat.{ℕ, _+_, _-_, _≤_, _<_}
 use native.Mathlib.Omega.{arith}
 use borrow.Author.Tests.{leb-true}
 use lib.Dec.{leb}
 use lib.IntN.{ℤ, pos, negsuc, natAbs}
-use lib.Signed.{leZ}
 use Rattle.interval.proofs.Range.{and-both}
 use Rattle.transfers.specs.declared.Transfer.{Transfer}
 use Rattle.transfers.specs.Listing.{isVat, bothVats}

@@ -1,6 +1,6 @@
 -- `gathered` meets its contract: a walk of its MIR, by hand. The array is copied to a slot in memory, lent as a `&mut` slice for a lifetime that the walk makes, and taken back after the call of `gather`.
 use mathlib.Core.Path.{_≡_, refl, sym, ap, subst, _∙_}
-use Prim.Native.Nat.{ℕ, _+_, _<_, _≤_, _^_, min}
+use Prim.Native.Nat.{ℕ, _<_, _≤_, _^_, min}
 use native.Mathlib.Omega.{arith}
 use mathlib.Core.List.{List, [], _∷_, _++_}
 use lib.Dec.{T as Holds, lit<}

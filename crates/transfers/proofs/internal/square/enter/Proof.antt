@@ -1,5 +1,4 @@
 use borrow.Author.Needs.{needs}
-use mathlib.Core.Path.{_≡_}
 use Rattle.transfers.proofs.Entered.{entered-at-once, entered-after}
 use Rattle.transfers.proofs.internal.square.enter.Statement.{statement}
 use Rattle.transfers.proofs.internal.square.enter.Tie as tie

@@ -1,5 +1,4 @@
 use borrow.Author.Needs.{needs}
-use mathlib.Core.Path.{sym, _∙_}
 use Rattle.transfers.specs.Code.{transferOf}
 use Rattle.transfers.proofs.Records.{nth-transfers}
 use Rattle.transfers.proofs.internal.tests.record.Statement.{statement}

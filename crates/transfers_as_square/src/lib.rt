@@ -1,0 +1,2 @@
+// What a list of transfers stands for.
+pub mod claims;
