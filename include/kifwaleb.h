@@ -5,25 +5,26 @@
  * makes. It is for x86-64 Linux.
  *
  * THE INTERFACE IS NOT FROZEN. A later version adds a slice of load-cell
- * readings to the two eliminations, the start box, both sweep calls and the load of
- * half rows. Header and archive must come from the same version: C does not notice
- * if they do not.
+ * readings to the eliminations, the start box, the sweep calls and the load of half
+ * rows. Header and archive must come from the same version: C does not notice if they
+ * do not.
  *
  * Numbers are counts of units of one millionth: of a whole for shares, of a
  * tonne (so one gram) for weights. An interval is two of them, lower end then
  * upper end, lower not above upper, both from -2,000,000,000 to 2,000,000,000;
  * these limits are 'the range' below. With n vats a matrix is 2*n*n numbers, row
- * by row, and a right side or a box 2*n numbers. Vats, rows and lines are
+ * by row, and a right side or a box 2*n numbers; in the calls kifwaleb_..._transfers
+ * a list of transfers stands in place of the matrix. Vats, rows and lines are
  * numbered from 1.
  *
- * A slice is passed as a pointer and a length, which counts numbers or bytes.
- * All numbers, lengths and texts are tested: a wrong one is refused with a number
- * and a place, and no refusal changes anything that was lent. kifwaleb_narrower
- * alone refuses nothing: it takes a wrong box for the wider one. Pointers cannot
- * be tested. It is the caller who sees to it that
+ * A slice is passed as a pointer and a length, which counts numbers, bytes or
+ * transfers. All numbers, lengths and texts are tested: a wrong one is refused with
+ * a number and a place, and no refusal changes anything that was lent.
+ * kifwaleb_narrower alone refuses nothing: it takes a wrong box for the wider one.
+ * Pointers cannot be tested. It is the caller who sees to it that
  * - no pointer is null, also with length 0, and each is aligned for its type;
- * - as many numbers or bytes as the length says lie there, all of them set, also
- *   in a slice that a call only writes;
+ * - as many numbers, bytes or transfers as the length says lie there, all of them
+ *   set, also in a slice that a call only writes;
  * - a slice without 'const' has no byte in common with another slice of the call;
  *   two slices with 'const' may be the same;
  * - nobody else writes to a lent slice before the call returns, nor reads one
@@ -57,6 +58,9 @@ extern "C" {
 #define KIFWALEB_MOST_VATS 32
 #define KIFWALEB_MOST_SWEEPS 10000
 
+/* The most transfers in one list. */
+#define KIFWALEB_MOST_TRANSFERS 1024
+
 /* The bytes of a lent sheet: exactly so many. */
 #define KIFWALEB_SHEET_LENGTH 2048
 
@@ -71,12 +75,13 @@ enum KifwalebNumber {
     KIFWALEB_DONE = 0,
     /* The number of vats is 0 or above 32. Place 0. */
     KIFWALEB_SIZE = 1,
-    /* A slice has the wrong length. Place 1 the matrix, 2 the right side, 3 the
-     * box or the sheet; the lowest if there are several. */
+    /* A slice has the wrong length. Place 1 the matrix, or a list of more than 1,024
+     * transfers, 2 the right side, 3 the box or the sheet; the lowest if there are
+     * several. */
     KIFWALEB_LENGTH = 2,
     /* An interval has its ends out of sequence or out of the range. The place is
-     * the first such interval, counted from 0 through matrix, right side and
-     * start box; in a single step the operand, 0 or 1; of a weighed interval 0. */
+     * the first such interval, counted from 0 through matrix or list, right side
+     * and start box; in a single step the operand, 0 or 1; of a weighed interval 0. */
     KIFWALEB_ENDS = 3,
     /* The sweeps allowed are 0 or above 10,000. Place 0. */
     KIFWALEB_ALLOWED = 4,
@@ -98,6 +103,13 @@ enum KifwalebNumber {
     /* Neither do all rows of the shares' magnitudes come to less than one, nor do all
      * columns. Only kifwaleb_start_box returns it. Place 0. */
     KIFWALEB_SUMS = 10,
+    /* A receiving or giving vat is none from 1 to n. Only the calls
+     * kifwaleb_..._transfers return it. The place is the first such transfer, from 0. */
+    KIFWALEB_TRANSFER_VAT = 11,
+    /* A transfer does not come after the one before it, by receiving and then giving
+     * vat. Only the calls kifwaleb_..._transfers return it. The place is the first such
+     * transfer, from 0. */
+    KIFWALEB_TRANSFER_ORDER = 12,
     /* Nothing is loaded, or a half pass is out of turn. Only the calls
      * kifwaleb_half_... return it. Place 0. */
     KIFWALEB_NOT_DUE = 19,
@@ -130,6 +142,15 @@ typedef struct KifwalebOutcome {
     uint64_t place;
     uint64_t count;
 } KifwalebOutcome;
+
+/* One share of a list: [lo, hi] of what passes through the giving vat goes on into
+ * the receiving vat. */
+typedef struct KifwalebTransfer {
+    int64_t receiver;
+    int64_t giver;
+    int64_t lo;
+    int64_t hi;
+} KifwalebTransfer;
 
 /*
  * The exact sum of the intervals a and b.
@@ -264,6 +285,53 @@ KifwalebOutcome kifwaleb_symmetric_sweep(size_t n,
                                          const int64_t *b, size_t b_len,
                                          int64_t *bounds, size_t bounds_len,
                                          size_t allowed);
+
+/*
+ * As kifwaleb_eliminate_balance, with a list of transfers in place of B: at most 1,024
+ * of them, which may be none, sorted by receiving and then by giving vat, each pair of
+ * vats at most once. The receiving vat is the row of B and the giving vat its column;
+ * the share of a pair that is not listed is 0, and one that is listed may be 0 too.
+ * Outcome, count and box are those of kifwaleb_eliminate_balance for the matrix that
+ * the list stands for, but the tests before the calculation are
+ *   SIZE;
+ *   LENGTH, with place 1 for more than 1,024 transfers;
+ *   TRANSFER_VAT with the transfer; the whole list is tested for this first;
+ *   TRANSFER_ORDER with the transfer;
+ *   ENDS, the place counts through list and right side.
+ */
+KifwalebOutcome kifwaleb_eliminate_transfers(size_t n,
+                                             const KifwalebTransfer *transfers, size_t count,
+                                             const int64_t *b, size_t b_len,
+                                             int64_t *bounds, size_t bounds_len);
+
+/*
+ * As kifwaleb_sweep, with a list of transfers in place of B, as above.
+ * Outcome, count and box are those of kifwaleb_sweep for the matrix that the list stands
+ * for, but the tests before the calculation are
+ *   SIZE;
+ *   LENGTH, with place 1 for more than 1,024 transfers;
+ *   ALLOWED;
+ *   TRANSFER_VAT with the transfer; the whole list is tested for this first;
+ *   TRANSFER_ORDER with the transfer;
+ *   ENDS, the place counts through list, right side and start box.
+ */
+KifwalebOutcome kifwaleb_sweep_transfers(size_t n,
+                                         const KifwalebTransfer *transfers, size_t count,
+                                         const int64_t *b, size_t b_len,
+                                         int64_t *bounds, size_t bounds_len,
+                                         size_t allowed);
+
+/*
+ * As kifwaleb_symmetric_sweep, with a list of transfers in place of B.
+ * Tests as for kifwaleb_sweep_transfers; outcome, count and box are those of
+ * kifwaleb_symmetric_sweep.
+ */
+KifwalebOutcome kifwaleb_symmetric_sweep_transfers(size_t n,
+                                                   const KifwalebTransfer *transfers,
+                                                   size_t count,
+                                                   const int64_t *b, size_t b_len,
+                                                   int64_t *bounds, size_t bounds_len,
+                                                   size_t allowed);
 
 /*
  * The calls kifwaleb_half_... do the pass there and back of kifwaleb_symmetric_sweep by

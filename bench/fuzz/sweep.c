@@ -336,6 +336,33 @@ static void check_settled(const int64_t *box)
     }
 }
 
+_Static_assert(sizeof(KifwalebTransfer) == 32 && offsetof(KifwalebTransfer, giver) == 8
+               && offsetof(KifwalebTransfer, lo) == 16 && offsetof(KifwalebTransfer, hi) == 24,
+               "a transfer lies in memory as four numbers do");
+
+/* The same from the list of the shares that are not 0. */
+static void check_listed(KifwalebOutcome whole, const int64_t *box)
+{
+    static KifwalebTransfer list[MOST_VATS * MOST_VATS];
+    static Box after;
+    size_t n = call.n, count = 0;
+    KifwalebOutcome outcome;
+
+    for (size_t k = 0; k < n * n; k++) {
+        const int64_t *ends = call.numbers[MATRIX] + 2 * k;
+        int64_t receiver = (int64_t)(1 + k / n), giver = (int64_t)(1 + k % n);
+
+        if (ends[0] != 0 || ends[1] != 0)
+            list[count++] = (KifwalebTransfer){ receiver, giver, ends[0], ends[1] };
+    }
+    memcpy(after, call.numbers[BOX], 2 * n * sizeof *box);
+    outcome = (there_and_back() ? kifwaleb_symmetric_sweep_transfers : kifwaleb_sweep_transfers)(
+        n, list, count, call.numbers[RIGHT], 2 * n, after, 2 * n, call.allowed);
+    promised(same_outcome(outcome, whole), "the call from the list answers as from the matrix");
+    promised(memcmp(after, box, 2 * n * sizeof *box) == 0,
+             "the call from the list leaves the box of the call from the matrix");
+}
+
 /* A symmetric call against the ordinary one with as many sweeps allowed. A box in which either
  * settled stands for all later ones. */
 static void check_inside(KifwalebOutcome symmetric, const int64_t *box)
@@ -430,6 +457,7 @@ int LLVMFuzzerTestOneInput(const uint8_t *data, size_t size)
     if (tested(call.allowed).number != KIFWALEB_DONE)
         return 0;
     solutions_held += (uint64_t)call.planted;
+    check_listed(outcome, box);
     if (outcome.number == KIFWALEB_DONE)
         check_settled(box);
     if (outcome.number != KIFWALEB_SPENT)

@@ -2,9 +2,11 @@
 //! lengths and all.
 
 use crate::case::Slices;
-use crate::reference::{Call, HalfCall, Interval, Operation, Outcome, Pass};
+use crate::reference::{Call, HalfCall, Interval, ListCall, Operation, Outcome, Pass, TRANSFER};
 use crate::side::{Flat, Side};
 use kifwaleb::raw::{self, KifwalebOutcome};
+use kifwaleb::Transfer;
+use std::slice;
 
 pub struct Archive;
 
@@ -41,6 +43,19 @@ impl Side for Archive {
         match pass {
             Pass::There => lend!(kifwaleb_sweep, n, lent, allowed),
             Pass::ThereAndBack => lend!(kifwaleb_symmetric_sweep, n, lent, allowed),
+        }
+    }
+
+    fn transfers(&self, call: ListCall, n: usize, lent: Slices) -> Outcome {
+        let lent = listed(lent);
+        match call {
+            ListCall::Eliminate => lend!(kifwaleb_eliminate_transfers, n, lent),
+            ListCall::Sweep(Pass::There, allowed) => {
+                lend!(kifwaleb_sweep_transfers, n, lent, allowed)
+            }
+            ListCall::Sweep(Pass::ThereAndBack, allowed) => {
+                lend!(kifwaleb_symmetric_sweep_transfers, n, lent, allowed)
+            }
         }
     }
 
@@ -104,8 +119,62 @@ macro_rules! lend {
 }
 use lend;
 
+/// The list as the archive takes it.
+fn listed(lent: Slices<'_>) -> Slices<'_, Transfer> {
+    let count = lent.matrix.len() / TRANSFER;
+    let list = lent.matrix.as_mut_ptr().cast();
+    Slices {
+        // SAFETY: a transfer lies in memory as four numbers do, as a test shows.
+        matrix: unsafe { slice::from_raw_parts_mut(list, count) },
+        right_side: lent.right_side,
+        bounds: lent.bounds,
+    }
+}
+
 impl From<KifwalebOutcome> for Outcome {
     fn from(given: KifwalebOutcome) -> Outcome {
         Outcome::counted(given.number, given.place, given.count)
+    }
+}
+
+#[cfg(test)]
+mod tests {
+    use super::*;
+    use crate::case::Case;
+    use crate::reference::System;
+    use std::mem::{align_of, offset_of, size_of};
+
+    #[test]
+    fn a_transfer_lies_in_memory_as_four_numbers_do() {
+        assert_eq!([size_of::<Transfer>(), align_of::<Transfer>()], [32, 8]);
+        let vats = [offset_of!(Transfer, receiver), offset_of!(Transfer, giver)];
+        let ends = [offset_of!(Transfer, lo), offset_of!(Transfer, hi)];
+        assert_eq!([vats, ends], [[0, 8], [16, 24]]);
+    }
+
+    /// Behind two transfers of three vats. With any two numbers taken for each other, the
+    /// first list would be refused.
+    #[test]
+    fn the_archive_takes_each_number_for_what_it_is() {
+        let [there, back] = Pass::ALL.map(|pass| ListCall::Sweep(pass, 1));
+        for (transfer, end) in [
+            ([2, 3, 5, 6], [0, 0]),
+            ([3, 1, 5, 6], [0, 0]),
+            ([4, 3, 5, 6], [11, 2]),
+            ([2, 4, 5, 6], [11, 2]),
+            ([1, 3, 5, 6], [12, 2]),
+            ([2, 1, 5, 6], [12, 2]),
+            ([2, 3, 7, 6], [3, 2]),
+            ([2, 3, -2_000_000_001, 6], [3, 2]),
+            ([2, 3, 5, 2_000_000_001], [3, 2]),
+        ] {
+            let mut lent = Case::new(&System::noughts(3));
+            lent.matrix = [[1, 3, 5, 6], [2, 1, 5, 6], transfer].concat();
+            for call in [ListCall::Eliminate, there, back] {
+                let answer = lent.answer(|n, slices| Archive.transfers(call, n, slices));
+                let outcome = answer.outcome;
+                assert_eq!([outcome.number, outcome.place], end, "{transfer:?}");
+            }
+        }
     }
 }

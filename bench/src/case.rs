@@ -3,7 +3,8 @@
 use crate::guarded::Guarded;
 use crate::reference::{laid_flat, Outcome, System};
 
-/// The arguments of a call. The lengths need not fit the size.
+/// The arguments of a call. The lengths need not fit the size. In place of a matrix
+/// there can be a list of transfers, four numbers to each.
 #[derive(Clone, Debug, Default, PartialEq, Eq)]
 pub struct Case {
     pub n: usize,
@@ -13,9 +14,9 @@ pub struct Case {
 }
 
 /// The slices as a call gets them. Matrix and right side can be altered only
-/// so that a forbidden change is seen.
-pub struct Slices<'a> {
-    pub matrix: &'a mut [i64],
+/// so that a forbidden change is seen. A list of transfers is not of numbers.
+pub struct Slices<'a, T = i64> {
+    pub matrix: &'a mut [T],
     pub right_side: &'a mut [i64],
     pub bounds: &'a mut [i64],
 }

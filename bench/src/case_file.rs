@@ -3,8 +3,8 @@
 
 use crate::case::{Case, Slices};
 use crate::comparison::{Boxes, MOST_LENT};
-use crate::reference::{self, Call, HalfCall, Interval, Operation, Outcome, Pass};
-use crate::reference::{HALF_BOX, MOST_EQUATIONS};
+use crate::reference::{self, Call, HalfCall, Interval, ListCall, Operation, Outcome, Pass};
+use crate::reference::{HALF_BOX, MOST_EQUATIONS, TRANSFER};
 use crate::side::Side;
 use crate::text_case::TextCase;
 use std::fmt::Write;
@@ -17,6 +17,9 @@ pub enum Entry {
     Remark(String),
     Step(Operation, Interval, Interval),
     System(Case),
+    /// The same with a list of transfers in place of the matrix.
+    List(Case),
+    Transfers(ListCall),
     Eliminate(Call),
     StartBox,
     /// Which of the two calls, and the sweeps allowed.
@@ -121,6 +124,9 @@ impl<'a> Rest<'a> {
             "X" => Entry::StartBox,
             "S" => Entry::Sweep(Pass::There, self.number()),
             "Y" => Entry::Sweep(Pass::ThereAndBack, self.number()),
+            "E" => Entry::Transfers(ListCall::Eliminate),
+            "G" => Entry::Transfers(ListCall::Sweep(Pass::There, self.number())),
+            "H" => Entry::Transfers(ListCall::Sweep(Pass::ThereAndBack, self.number())),
             "L" => Entry::Half(HalfCall::Load, self.number()),
             "U" => Entry::Half(HalfCall::Up, self.number()),
             "D" => Entry::Half(HalfCall::Down, self.number()),
@@ -148,6 +154,7 @@ pub fn entries(file: &[u8]) -> Vec<Entry> {
             "" => return entries,
             "#" => Entry::Remark(rest.until(|byte| *byte == b'\n').trim_start().to_string()),
             "M" => Entry::System(rest.system()),
+            "V" => Entry::List(rest.system()),
             "T" => Entry::Text(rest.text()),
             _number => rest.call(),
         });
@@ -161,7 +168,11 @@ pub fn written(entries: &[Entry]) -> Vec<u8> {
     for entry in entries {
         match entry {
             Entry::Remark(words) => file.extend(format!("# {words}\n").bytes()),
-            Entry::System(lent) => file.extend(system_written(lent).bytes()),
+            Entry::System(lent) => {
+                let row = 2 * lent.n.clamp(1, MOST_EQUATIONS);
+                file.extend(system_written('M', lent, row).bytes());
+            }
+            Entry::List(lent) => file.extend(system_written('V', lent, TRANSFER).bytes()),
             Entry::Text(text) => {
                 file.extend(format!("T {}\n", text.len()).bytes());
                 file.extend(text);
@@ -188,6 +199,9 @@ fn letter(call: &Entry) -> char {
         Entry::StartBox => 'X',
         Entry::Sweep(Pass::There, _) => 'S',
         Entry::Sweep(Pass::ThereAndBack, _) => 'Y',
+        Entry::Transfers(ListCall::Eliminate) => 'E',
+        Entry::Transfers(ListCall::Sweep(Pass::There, _)) => 'G',
+        Entry::Transfers(ListCall::Sweep(Pass::ThereAndBack, _)) => 'H',
         Entry::Half(HalfCall::Load, _) => 'L',
         Entry::Half(HalfCall::Up, _) => 'U',
         Entry::Half(HalfCall::Down, _) => 'D',
@@ -216,6 +230,7 @@ fn arguments(call: &Entry) -> String {
             format!(" {length} {vat} {lo} {hi}")
         }
         Entry::Sweep(_, number)
+        | Entry::Transfers(ListCall::Sweep(_, number))
         | Entry::Half(_, number)
         | Entry::Name(number)
         | Entry::Report(number)
@@ -224,12 +239,12 @@ fn arguments(call: &Entry) -> String {
     }
 }
 
-/// A row of the matrix takes one line.
-fn system_written(lent: &Case) -> String {
+/// A row of the matrix takes one line, and so does a transfer.
+fn system_written(letter: char, lent: &Case, row: usize) -> String {
     let lengths = [&lent.matrix, &lent.right_side, &lent.bounds].map(Vec::len);
     let [matrix, right_side, bounds] = lengths;
-    let mut text = format!("M {} {matrix} {right_side} {bounds}\n", lent.n);
-    let rows = lent.matrix.chunks(2 * lent.n.clamp(1, MOST_EQUATIONS));
+    let mut text = format!("{letter} {} {matrix} {right_side} {bounds}\n", lent.n);
+    let rows = lent.matrix.chunks(row);
     for row in rows.chain([&lent.right_side[..], &lent.bounds]) {
         text += joined(row).trim_start();
         text.push('\n');
@@ -257,7 +272,7 @@ pub fn lines(entries: &[Entry], side: &impl Side) -> Vec<String> {
     for entry in entries {
         let answer = match entry {
             Entry::Remark(_) => continue,
-            Entry::System(system) => {
+            Entry::System(system) | Entry::List(system) => {
                 lent = Some(system.clone());
                 state = [0; MOST_LENT];
                 continue;
@@ -274,7 +289,11 @@ pub fn lines(entries: &[Entry], side: &impl Side) -> Vec<String> {
                 let chosen = side.narrower(*n, first, second);
                 format!(" {}{}", chosen.len(), joined(chosen))
             }
-            Entry::Eliminate(_) | Entry::StartBox | Entry::Sweep(..) | Entry::Half(..) => {
+            Entry::Eliminate(_)
+            | Entry::StartBox
+            | Entry::Sweep(..)
+            | Entry::Transfers(_)
+            | Entry::Half(..) => {
                 let lent = lent.as_mut().expect("a system stands before");
                 on_system(entry, lent, &mut state, side)
             }
@@ -291,6 +310,7 @@ fn on_system(call: &Entry, lent: &mut Case, state: &mut [i64], side: &impl Side)
         Entry::Eliminate(call) => side.eliminate(*call, n, slices),
         Entry::StartBox => side.start_box(n, slices),
         Entry::Sweep(pass, allowed) => side.sweep(*pass, n, slices, *allowed),
+        Entry::Transfers(call) => side.transfers(*call, n, slices),
         Entry::Half(call, length) => side.half_rows(*call, &mut state[..*length], n, slices),
         other => panic!("{other:?} is no call on a system"),
     });
@@ -301,7 +321,7 @@ fn on_system(call: &Entry, lent: &mut Case, state: &mut [i64], side: &impl Side)
         count,
     } = answer.outcome;
     let counted = match call {
-        Entry::Sweep(..) => format!(" {count}"),
+        Entry::Sweep(..) | Entry::Transfers(ListCall::Sweep(..)) => format!(" {count}"),
         _ => String::new(),
     };
     let left = match call {

@@ -2,7 +2,8 @@
 
 pub const USAGE: &str =
     "usage: differential [pairs=N] [systems=N] [starts=N] [sweeps=N] [boxes=N] [texts=N] \
-     [searches=N] [inside=N] [symmetric=N] [operations=N] [programs=N] [seed=N]";
+     [searches=N] [inside=N] [symmetric=N] [operations=N] [transfers=N] \
+     [programs=N] [seed=N]";
 
 #[derive(Clone, Copy, Debug, PartialEq, Eq)]
 pub struct Plan {
@@ -26,6 +27,8 @@ pub struct Plan {
     pub symmetric: u64,
     /// Operations on half rows, in lists.
     pub operations: u64,
+    /// Calls from a list of transfers, faulty ones first.
+    pub transfers: u64,
     /// Texts for the program, edge texts and random ones.
     pub programs: usize,
     pub seed: u64,
@@ -43,6 +46,7 @@ impl Plan {
         inside: 1_000_000,
         symmetric: 1_000_000,
         operations: 1_000_000,
+        transfers: 1_000_000,
         programs: 2_000,
         seed: 1,
     };
@@ -62,6 +66,7 @@ impl Plan {
                 ("inside", number) => plan.inside = number.parse().ok()?,
                 ("symmetric", number) => plan.symmetric = number.parse().ok()?,
                 ("operations", number) => plan.operations = number.parse().ok()?,
+                ("transfers", number) => plan.transfers = number.parse().ok()?,
                 ("programs", number) => plan.programs = number.parse().ok()?,
                 ("seed", number) => plan.seed = number.parse().ok()?,
                 _ => return None,
@@ -83,11 +88,11 @@ mod tests {
     fn arguments_come_in_any_sequence() {
         let plan = read(
             "pairs=2 systems=3 sweeps=5 texts=6 programs=7 seed=4 starts=8 boxes=9 searches=10 \
-             inside=11 symmetric=12 operations=13",
+             inside=11 symmetric=12 operations=13 transfers=14",
         );
         assert_eq!(
             read(
-                "operations=13 symmetric=12 inside=11 searches=10 boxes=9 starts=8 seed=4 \
+                "transfers=14 operations=13 symmetric=12 inside=11 searches=10 boxes=9 starts=8 seed=4 \
                  programs=7 texts=6 sweeps=5 systems=3 pairs=2"
             ),
             plan
@@ -97,6 +102,7 @@ mod tests {
         assert_eq!([plan.texts, plan.programs as u64, plan.seed], [6, 7, 4]);
         assert_eq!([plan.starts, plan.boxes, plan.searches], [8, 9, 10]);
         assert_eq!([plan.inside, plan.symmetric, plan.operations], [11, 12, 13]);
+        assert_eq!(plan.transfers, 14);
         assert_eq!(read(""), Some(Plan::DEFAULT));
     }
 

@@ -85,7 +85,7 @@ mod tests {
     use super::*;
     use crate::archive::Archive;
     use crate::case::Slices;
-    use crate::reference::{calculate, HalfCall, Operation, Outcome, Pass};
+    use crate::reference::{calculate, HalfCall, ListCall, Operation, Outcome, Pass};
     use crate::side::{Flat, Reference};
 
     #[test]
@@ -112,6 +112,9 @@ mod tests {
             Outcome::DONE
         }
         fn sweep(&self, _: Pass, _: usize, _: Slices, _: usize) -> Outcome {
+            Outcome::DONE
+        }
+        fn transfers(&self, _: ListCall, _: usize, _: Slices) -> Outcome {
             Outcome::DONE
         }
         fn half_rows(&self, _: HalfCall, _: &mut [i64], _: usize, _: Slices) -> Outcome {

@@ -1,7 +1,7 @@
 //! The calls, as one of the sides does them.
 
 use crate::case::Slices;
-use crate::reference::{self, Call, HalfCall, Interval, Operation, Outcome, Pass, Step};
+use crate::reference::{self, Call, HalfCall, Interval, ListCall, Operation, Outcome, Pass, Step};
 
 /// A step's answer laid flat: number, place, lower end, upper end.
 pub type Flat = (u64, u64, i64, i64);
@@ -13,6 +13,8 @@ pub trait Side {
     fn eliminate(&self, call: Call, n: usize, lent: Slices) -> Outcome;
     fn start_box(&self, n: usize, lent: Slices) -> Outcome;
     fn sweep(&self, pass: Pass, n: usize, lent: Slices, allowed: usize) -> Outcome;
+    /// In place of the matrix a list of transfers is lent, four numbers to each.
+    fn transfers(&self, call: ListCall, n: usize, lent: Slices) -> Outcome;
     /// On a state; n and the slices are a load's.
     fn half_rows(&self, call: HalfCall, state: &mut [i64], n: usize, lent: Slices) -> Outcome;
     /// One of the two itself, or an empty part where the first begins.
@@ -48,6 +50,10 @@ impl Side for Reference {
     fn sweep(&self, pass: Pass, n: usize, lent: Slices, allowed: usize) -> Outcome {
         let (matrix, right_side, bounds) = (lent.matrix, lent.right_side, lent.bounds);
         reference::sweep(pass, n, matrix, right_side, bounds, allowed)
+    }
+
+    fn transfers(&self, call: ListCall, n: usize, lent: Slices) -> Outcome {
+        reference::transfers(call, n, lent.matrix, lent.right_side, lent.bounds)
     }
 
     fn half_rows(&self, call: HalfCall, state: &mut [i64], n: usize, lent: Slices) -> Outcome {

@@ -8,7 +8,8 @@
 //! tonne (so one gram) for weights. An interval is two of them, lower end then
 //! upper end, both from [`LOWEST`] to [`HIGHEST`]; that is 'the range'. With n
 //! vats a matrix is 2·n·n numbers, row by row, and a right side or a box 2·n
-//! numbers.
+//! numbers. Where most shares are 0, a list of [`Transfer`]s can stand in place
+//! of the matrix.
 //!
 //! The interface is not frozen, and this package must come from the same
 //! version as the archive: nothing tells if it does not.
@@ -37,6 +38,7 @@ pub mod raw;
 mod steps;
 mod systems;
 mod texts;
+mod transfers;
 
 pub use boxes::narrower;
 pub use half_rows::HalfRows;
@@ -44,6 +46,7 @@ pub use outcome::{Outcome, Refusal};
 pub use steps::{difference, product, quotient, sum, Interval, Step};
 pub use systems::{eliminate, eliminate_balance, start_box, sweep, symmetric_sweep, Swept};
 pub use texts::{report, Written};
+pub use transfers::{eliminate_transfers, sweep_transfers, symmetric_sweep_transfers, Transfer};
 
 /// One whole, or one tonne, in units.
 ///
@@ -89,6 +92,17 @@ pub const MOST_VATS: usize = 32;
 /// assert_eq!((swept.outcome, swept.count), (Outcome::Done, 2));
 /// ```
 pub const MOST_SWEEPS: usize = 10_000;
+
+/// The most transfers in one list.
+///
+/// ```
+/// use kifwaleb::{eliminate_transfers, Outcome, Refusal, Transfer, MOST_TRANSFERS};
+/// let nought = Transfer { receiver: 1, giver: 1, lo: 0, hi: 0 };
+/// let list = [nought; MOST_TRANSFERS + 1];
+/// let refused = eliminate_transfers(1, &list, &[5, 5], &mut [0; 2]);
+/// assert_eq!(refused, Outcome::Refused(Refusal::Length(1)));
+/// ```
+pub const MOST_TRANSFERS: usize = 1_024;
 
 /// The bytes of a lent sheet: exactly so many.
 ///

@@ -39,11 +39,11 @@ pub enum Outcome {
 pub enum Refusal {
     /// The number of vats is 0 or above 32.
     Size,
-    /// This slice has the wrong length: 1 the matrix, 2 the right side, 3 the
-    /// box or the sheet.
+    /// This slice has the wrong length: 1 the matrix, or a list of more than 1,024
+    /// transfers, 2 the right side, 3 the box or the sheet.
     Length(usize),
     /// This interval has its ends out of sequence or out of the range, counted
-    /// from 0 through matrix, right side and start box; 0 for a weighed one.
+    /// from 0 through matrix or list, right side and start box; 0 for a weighed one.
     Ends(usize),
     /// The sweeps allowed are 0 or above 10,000.
     Allowed,
@@ -61,6 +61,12 @@ pub enum Refusal {
     /// For a start box: neither are all row sums of the shares' magnitudes below one
     /// nor all column sums.
     Sums,
+    /// In a list: the receiving or giving vat of this transfer, counted from 0, is none
+    /// from 1 to n.
+    TransferVat(usize),
+    /// In a list: this transfer, counted from 0, does not come after the one before it,
+    /// by receiving and then giving vat.
+    TransferOrder(usize),
     /// On half rows: the other half pass is due, or nothing is loaded.
     NotDue,
     /// On half rows: the vat to be narrowed is none from 1 to n.
@@ -84,6 +90,8 @@ impl From<KifwalebOutcome> for Outcome {
             7 => Refusal::Empty(place),
             8 => Refusal::Text(place),
             10 => Refusal::Sums,
+            11 => Refusal::TransferVat(place),
+            12 => Refusal::TransferOrder(place),
             19 => Refusal::NotDue,
             20 => Refusal::NoVat,
             number => panic!("the archive returned {number}, place {place}"),

@@ -10,10 +10,12 @@
 //! # Safety
 //!
 //! The functions accept any numbers, lengths and bytes. A pointer comes with
-//! its length, which counts numbers or bytes. It is never null, also with
-//! length 0, and is aligned; as many numbers or bytes lie there, all of them
-//! set. What a `*mut` pointer names shares no memory with another slice of the
-//! call.
+//! its length, which counts numbers, bytes or transfers. It is never null, also
+//! with length 0, and is aligned; as many numbers, bytes or transfers lie there,
+//! all of them set. What a `*mut` pointer names shares no memory with another
+//! slice of the call.
+
+use crate::Transfer;
 
 /// The numbers of a state of half rows: exactly so many, all 0 while nothing is loaded.
 pub const HALF_LENGTH: usize = 2_434;
@@ -111,6 +113,41 @@ extern "C" {
         n: usize,
         b_matrix: *const i64,
         b_matrix_len: usize,
+        b: *const i64,
+        b_len: usize,
+        bounds: *mut i64,
+        bounds_len: usize,
+        allowed: usize,
+    ) -> KifwalebOutcome;
+
+    /// As [`eliminate_transfers`](crate::eliminate_transfers).
+    pub fn kifwaleb_eliminate_transfers(
+        n: usize,
+        transfers: *const Transfer,
+        count: usize,
+        b: *const i64,
+        b_len: usize,
+        bounds: *mut i64,
+        bounds_len: usize,
+    ) -> KifwalebOutcome;
+
+    /// As [`sweep_transfers`](crate::sweep_transfers).
+    pub fn kifwaleb_sweep_transfers(
+        n: usize,
+        transfers: *const Transfer,
+        count: usize,
+        b: *const i64,
+        b_len: usize,
+        bounds: *mut i64,
+        bounds_len: usize,
+        allowed: usize,
+    ) -> KifwalebOutcome;
+
+    /// As [`symmetric_sweep_transfers`](crate::symmetric_sweep_transfers).
+    pub fn kifwaleb_symmetric_sweep_transfers(
+        n: usize,
+        transfers: *const Transfer,
+        count: usize,
         b: *const i64,
         b_len: usize,
         bounds: *mut i64,

@@ -41,6 +41,7 @@ macro_rules! lend {
         }
     };
 }
+pub(crate) use lend;
 
 /// Writes bounds on each component of the solutions of A·x = f, by elimination: at
 /// each step k, the lowest row from k on without 0 in column k is swapped with row k.

@@ -3,7 +3,8 @@
 
 use kifwaleb::{difference, product, quotient, sum, Interval, Step, HIGHEST};
 use kifwaleb::{eliminate, eliminate_balance, narrower, report, start_box, sweep, symmetric_sweep};
-use kifwaleb::{raw, HalfRows, Outcome, Refusal, SHEET_LENGTH};
+use kifwaleb::{eliminate_transfers, sweep_transfers, symmetric_sweep_transfers, Transfer};
+use kifwaleb::{raw, HalfRows, Outcome, Refusal, MOST_TRANSFERS, SHEET_LENGTH};
 
 const ONE: [i64; 2] = [1_000_000; 2];
 
@@ -108,6 +109,75 @@ fn the_way_back_is_another_sweep_of_the_same_pass() {
     let spent = symmetric_sweep(1, &ONE, &[1, 1], &mut bounds, 1);
     assert_eq!((spent.outcome, spent.count), (Outcome::Spent, 1));
     assert_eq!(bounds, [2, 3]);
+}
+
+/// Between two vats, or of one to itself.
+fn transfer(receiver: i64, giver: i64, [lo, hi]: [i64; 2]) -> Transfer {
+    Transfer {
+        receiver,
+        giver,
+        lo,
+        hi,
+    }
+}
+
+#[test]
+fn each_refusal_of_a_list_has_its_name() {
+    let (whole, crossed) = (transfer(1, 1, ONE), transfer(1, 1, [1, 0]));
+    let [received, given] = [transfer(2, 1, ONE), transfer(1, 0, ONE)];
+    let long = [whole; MOST_TRANSFERS + 1];
+    let listed = |n, list: &[Transfer], delivery: &[i64], refusal| {
+        assert_refused(refusal, |bounds| {
+            eliminate_transfers(n, list, delivery, bounds)
+        });
+        for call in [sweep_transfers, symmetric_sweep_transfers] {
+            assert_refused(refusal, |bounds| call(n, list, delivery, bounds, 1).outcome);
+        }
+    };
+    listed(33, &long, &ONE, Refusal::Size);
+    listed(1, &long, &[], Refusal::Length(1));
+    listed(1, &long[..2], &[], Refusal::Length(2));
+    listed(1, &[crossed, crossed, given], &ONE, Refusal::TransferVat(2));
+    listed(1, &[received, crossed], &ONE, Refusal::TransferVat(0));
+    listed(1, &[crossed, crossed], &ONE, Refusal::TransferOrder(1));
+    listed(1, &[crossed], &[1, 0], Refusal::Ends(0));
+    listed(1, &[whole], &[1, 0], Refusal::Ends(1));
+    listed(1, &[], &[1, 0], Refusal::Ends(0));
+}
+
+#[test]
+fn each_end_of_an_elimination_from_a_list_has_its_name() {
+    let eliminated = |share, refusal| {
+        assert_refused(refusal, |bounds| {
+            eliminate_transfers(1, &[transfer(1, 1, share)], &ONE, bounds)
+        });
+    };
+    eliminated(ONE, Refusal::ContainsZero(1));
+    eliminated([-2_000_000_000, 0], Refusal::OutOfRange(1));
+    assert_refused(Refusal::Length(3), |bounds| {
+        eliminate_transfers(1, &[], &ONE, &mut bounds[..1])
+    });
+    let mut bounds = [8, 7];
+    let done = eliminate_transfers(1, &[], &ONE, &mut bounds);
+    assert_eq!((done, bounds), (Outcome::Done, ONE));
+}
+
+#[test]
+fn each_end_of_sweeps_from_a_list_has_its_name() {
+    let (whole, none) = (transfer(1, 1, ONE), transfer(0, 0, ONE));
+    for call in [sweep_transfers, symmetric_sweep_transfers] {
+        let swept = |list: &[Transfer], bounds: &mut [i64], allowed| {
+            call(1, list, &[7, 7], bounds, allowed).outcome
+        };
+        assert_refused(Refusal::Allowed, |bounds| swept(&[none], bounds, 0));
+        assert_refused(Refusal::Empty(1), |bounds| swept(&[whole], bounds, 1));
+        let refused = swept(&[whole], &mut [8, 7], 1);
+        assert_eq!(refused, Outcome::Refused(Refusal::Ends(2)));
+        let mut bounds = [0, 9];
+        assert_eq!(swept(&[], &mut bounds, 1), Outcome::Spent);
+        assert_eq!(swept(&[], &mut bounds, 1), Outcome::Done);
+        assert_eq!(bounds, [7, 7]);
+    }
 }
 
 #[test]

@@ -5,14 +5,15 @@
 
 use kifwaleb_bench::case::Case;
 use kifwaleb_bench::case_file::{entries, lines, written, Entry, READ_LENGTHS};
-use kifwaleb_bench::comparison::{Boxes, HalfList, Search, StartBox};
+use kifwaleb_bench::comparison::{Boxes, HalfList, Search, StartBox, Transfers};
 use kifwaleb_bench::generator::{
     boxes_up_to, edge_cases, edge_lists, edge_pairs, edge_texts, half_lists_up_to,
     random_cases_up_to, random_lists_up_to, random_pairs, random_texts_up_to, searches,
-    starts_up_to, Random,
+    starts_up_to, transfers_up_to, Random,
 };
 use kifwaleb_bench::reference::{
-    read_text, Call, Interval, Operation, LIMIT, MOST_BYTES, MOST_EQUATIONS,
+    read_text, Call, Interval, Operation, LIMIT, MOST_BYTES, MOST_EQUATIONS, MOST_TRANSFERS,
+    TRANSFER,
 };
 use kifwaleb_bench::side::{Reference, Side};
 use kifwaleb_bench::sweep_list::SweepList;
@@ -43,6 +44,7 @@ fn main() -> io::Result<()> {
     all.extend(starts());
     all.extend(sweeps());
     all.extend(halves());
+    all.extend(transfers());
     all.extend(choices());
     all.extend(texts());
     all.extend(finds());
@@ -113,7 +115,7 @@ fn kind(entries: &[Entry]) -> String {
 fn ending(line: &str) -> String {
     let words: Vec<_> = line.split(' ').collect();
     match words[1] {
-        "S" | "Y" => format!("{}{}{}", words[1], words[2], words[4] > "1"),
+        "S" | "Y" | "G" | "H" => format!("{}{}{}", words[1], words[2], words[4] > "1"),
         _ => words[1..4].join(" "),
     }
 }
@@ -123,6 +125,7 @@ fn size(entry: &Entry) -> String {
     match entry {
         Entry::Step(_, a, b) => format!("{:?} {:?}", signs(a), signs(b)),
         Entry::System(lent) => lent.n.to_string(),
+        Entry::List(lent) => format!("{} {}", lent.n, lent.matrix.len().min(8 * TRANSFER)),
         _ => String::new(),
     }
 }
@@ -223,6 +226,22 @@ fn halves() -> Vec<Entry> {
     };
     let mut all = chosen(few.map(entries).collect(), 1, 40_000);
     all.extend(chosen(far.map(entries).collect(), 1, 16_000));
+    all
+}
+
+/// Few vats, and then as many transfers as there may be, and one more, for all three calls.
+fn transfers() -> Vec<Entry> {
+    let calls = || transfers_up_to(FEW_VATS, SEED);
+    let few = calls().filter(|listed| has_few_vats(&listed.lent));
+    let entries = |listed: Transfers| vec![Entry::List(listed.lent), Entry::Transfers(listed.call)];
+    let mut all = chosen(few.take(RANDOM).map(entries).collect(), 3, 60_000);
+    for (n, count) in [(MOST_EQUATIONS, MOST_TRANSFERS), (1, MOST_TRANSFERS + 1)] {
+        let long = |lent: &Case| lent.n == n && lent.matrix.len() == count * TRANSFER;
+        let three = calls().filter(|listed| long(&listed.lent)).take(3);
+        let mut three = three.peekable();
+        all.extend(three.peek().map(|listed| Entry::List(listed.lent.clone())));
+        all.extend(three.map(|listed| Entry::Transfers(listed.call)));
+    }
     all
 }
 

@@ -217,6 +217,47 @@ pub fn of_half_rows() -> Vec<Goal> {
     .collect()
 }
 
+/// Where transfers are refused for their vats.
+pub const VATS: &str = "11 at the first, a middle, the last transfer, 1,023";
+
+/// Where they are for their sequence: the first one never is.
+pub const ORDERS: &str = "12 at the second, a middle, the last transfer, 1,023";
+
+/// Of the three calls, which come together.
+pub fn of_transfers() -> Vec<Goal> {
+    let at_vats = |name| Goal::at(name, 1..=MOST_EQUATIONS);
+    let mut shared = vec![
+        at_vats("0 for n"),
+        Goal::at(VATS, 0..=3),
+        Goal::at(ORDERS, 0..=3),
+    ];
+    shared.extend(sizes_and_lengths());
+    let single = [
+        "0 with no transfer",
+        "0 with 1,024 transfers",
+        "0 or 9 with a known solution",
+        "2 for 1,025 transfers",
+        "3 in the list",
+        "3 in the right side",
+        "11 below 1",
+        "12 with the same vats",
+    ];
+    shared.extend(single.map(Goal::once));
+    let eliminate = ["5 at pivot", "6 in row"].map(at_vats).to_vec();
+    let sweep = ["9 for n", "7 at vat"].map(at_vats).into_iter();
+    let sweep: Vec<_> = sweep.chain(["3 in the box", "4"].map(Goal::once)).collect();
+    let calls = [
+        ("eliminate_transfers", eliminate),
+        ("sweep_transfers", sweep.clone()),
+        ("symmetric_sweep_transfers", sweep),
+    ];
+    let all = calls.into_iter().flat_map(|(call, own)| {
+        let goals = shared.clone().into_iter().chain(own);
+        goals.map(move |goal| goal.by(call))
+    });
+    all.collect()
+}
+
 /// One vat's own share is met twice, so that its box can be narrower too.
 pub fn of_symmetric() -> Vec<Goal> {
     let mut goals = vec![Goal::at(NARROWER[1], 1..=MOST_EQUATIONS)];

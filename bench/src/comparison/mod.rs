@@ -14,6 +14,7 @@ mod tally;
 #[cfg(test)]
 mod tests;
 mod texts;
+mod transfers;
 
 pub use choices::Boxes;
 pub use half::{HalfList, MOST_LENT};
@@ -24,6 +25,7 @@ pub use steps::Pair;
 pub use systems::Elimination;
 pub use tally::{Goal, Tally};
 pub use texts::shown;
+pub use transfers::Transfers;
 
 use crate::side::Side;
 

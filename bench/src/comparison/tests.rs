@@ -3,7 +3,7 @@
 
 use super::*;
 use crate::case::{Case, Slices};
-use crate::reference::{Call, HalfCall, Interval, Operation, Outcome, Pass};
+use crate::reference::{Call, HalfCall, Interval, ListCall, Operation, Outcome, Pass};
 use crate::reference::{HALF_BOX, HALF_LENGTH, LIMIT};
 use crate::samples::{identity, three_equations, INPUT};
 use crate::side::{Flat, Reference};
@@ -111,6 +111,10 @@ impl Side for Changed {
         self.numbers(Reference.sweep(pass, n, lent.again(), allowed), lent)
     }
 
+    fn transfers(&self, call: ListCall, n: usize, mut lent: Slices) -> Outcome {
+        self.numbers(Reference.transfers(call, n, lent.again()), lent)
+    }
+
     /// In place of the start box, which a load only reads, the box in the state.
     fn half_rows(&self, call: HalfCall, state: &mut [i64], n: usize, mut lent: Slices) -> Outcome {
         let outcome = Reference.half_rows(call, state, n, lent.again());
@@ -186,6 +190,18 @@ fn half_list(calls: &[HalfCall]) -> HalfList {
         loads: vec![list(&[]).lent],
         calls: calls.iter().map(|call| (*call, HALF_LENGTH)).collect(),
         solution: None,
+    }
+}
+
+/// The same balance from a list.
+fn listed(call: ListCall) -> Transfers {
+    let mut lent = list(&[]).lent;
+    lent.matrix.splice(..0, [1, 1]);
+    let solution = None;
+    Transfers {
+        call,
+        lent,
+        solution,
     }
 }
 
@@ -292,6 +308,23 @@ fn what_half_rows_leave_is_compared() {
     assert!(found.unwrap_err().contains("than the symmetric call"));
 }
 
+/// Done, spent and refused; the call from the square comes second.
+#[test]
+fn what_calls_from_a_list_leave_is_compared() {
+    let goals = goals::of_transfers();
+    let [there, back] = Pass::ALL.map(|pass| ListCall::Sweep(pass, 3));
+    let mut trials = [ListCall::Eliminate, there, back, there].map(listed);
+    trials[3].lent.right_side = vec![1, 0];
+    for trial in trials {
+        assert_compared(&goals, &[trial.clone()], &CHANGES);
+        for change in [&CHANGES[..3], &CHANGES[7..]].concat() {
+            let (calls, trial) = (Cell::new(1), iter::once(trial.clone()));
+            let found = compare(goals.clone(), trial, 9, &Changed { change, calls });
+            assert!(found.unwrap_err().contains("from the square"));
+        }
+    }
+}
+
 #[test]
 fn a_wrong_length_of_the_sheet_is_expected_as_the_call_answers_it() {
     let mut case = TextCase::new(INPUT.to_vec());
@@ -334,6 +367,12 @@ fn a_lost_solution_is_reported() {
     halves.solution = wrong.solution.clone();
     let text = compare(goals::of_half_rows(), iter::once(halves), 9, &Reference).unwrap_err();
     assert!(text.contains("is lost"), "{text}");
+    for call in [ListCall::Eliminate, ListCall::Sweep(Pass::There, 100)] {
+        let mut trial = listed(call);
+        trial.solution = wrong.solution.clone();
+        let text = compare(goals::of_transfers(), iter::once(trial), 9, &Reference).unwrap_err();
+        assert!(text.contains("is lost"), "{text}");
+    }
     let start = [StartBox(wrong)].into_iter();
     let text = compare(goals::of_start_box(), start, 9, &Reference).unwrap_err();
     assert!(text.contains("does not lie in the box"), "{text}");

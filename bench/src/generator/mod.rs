@@ -12,6 +12,7 @@ mod starts;
 mod sweeps;
 mod systems;
 mod texts;
+mod transfers;
 
 pub use choices::boxes_up_to;
 pub use half::half_lists_up_to;
@@ -25,3 +26,4 @@ pub use systems::balance::balance_of;
 pub use systems::{edge_cases, random_cases, random_cases_up_to};
 pub use texts::{edge_texts, random_texts, random_texts_up_to, FAULTY_SPELLINGS};
 pub use texts::{long_named_text, short_named_text};
+pub use transfers::transfers_up_to;

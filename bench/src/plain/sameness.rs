@@ -6,7 +6,8 @@ use crate::comparison::{compare, goals, Elimination, Goal, Trial};
 use crate::generator::{
     edge_cases, edge_lists, edge_texts, random_cases, random_lists, random_texts, starts_up_to,
 };
-use crate::reference::{Call, HalfCall, Interval, Operation, Outcome, Pass, MOST_EQUATIONS};
+use crate::reference::MOST_EQUATIONS;
+use crate::reference::{Call, HalfCall, Interval, ListCall, Operation, Outcome, Pass};
 use crate::side::{Flat, Side};
 
 struct Plain;
@@ -28,6 +29,10 @@ impl Side for Plain {
     fn sweep(&self, pass: Pass, n: usize, lent: Slices, allowed: usize) -> Outcome {
         let (matrix, right_side, bounds) = (lent.matrix, lent.right_side, lent.bounds);
         sweep(pass, n, matrix, right_side, bounds, allowed)
+    }
+
+    fn transfers(&self, _: ListCall, _: usize, _: Slices) -> Outcome {
+        unimplemented!("lists are timed against our own calls")
     }
 
     fn half_rows(&self, _: HalfCall, _: &mut [i64], _: usize, _: Slices) -> Outcome {

@@ -19,6 +19,7 @@ mod system;
 mod text;
 #[cfg(test)]
 mod text_examples;
+mod transfers;
 
 pub use elimination::{calculate, eliminate, eliminate_balance, numerator, trace, Call, Trace};
 pub use half::{half_rows, HalfCall, Loaded, HALF_BOX, HALF_LENGTH};
@@ -35,3 +36,4 @@ pub use sweep::{sweep, sweep_end, sweeps, Pass, SweepEnd, MOST_SWEEPS};
 pub use system::{intervals, laid_flat, System, MOST_EQUATIONS};
 pub use text::{name_range, read_text, CellarText, Flaw, TextFault, TextPart};
 pub use text::{LONGEST_NAME, MOST_BYTES, MOST_DIGITS};
+pub use transfers::{transfers, ListCall, MOST_TRANSFERS, TRANSFER};

@@ -22,6 +22,10 @@ pub const FAULTY_TEXT: u64 = 8;
 pub const SPENT: u64 = 9;
 /// Neither are all row sums of magnitudes below one nor all column sums.
 pub const FAULTY_SUMS: u64 = 10;
+/// A transfer's vat is outside 1 to n.
+pub const TRANSFER_VAT: u64 = 11;
+/// A transfer does not come after the one before it.
+pub const TRANSFER_ORDER: u64 = 12;
 /// Nothing is loaded, or a half pass is out of turn.
 pub const NOT_DUE: u64 = 19;
 /// A narrowed vat outside 1 to n.

@@ -100,7 +100,7 @@ pub(super) fn read(
     Ok((System::new(n, matrix, right_side), start))
 }
 
-fn test_allowed(allowed: usize) -> Result<(), SweepEnd> {
+pub(super) fn test_allowed(allowed: usize) -> Result<(), SweepEnd> {
     if allowed == 0 || allowed > MOST_SWEEPS {
         Err(SweepEnd::Allowance)
     } else {
@@ -113,7 +113,7 @@ pub fn sweeps(balance: &System, start: Vec<Interval>, allowed: usize) -> SweepEn
     swept(Rounding::Once, Pass::There, balance, start, allowed)
 }
 
-fn swept(
+pub(super) fn swept(
     rounding: Rounding,
     pass: Pass,
     balance: &System,

@@ -12,6 +12,10 @@
 //     U len           the half pass up on the first len numbers of the state
 //     D len           the half pass down
 //     Z len vat lo hi narrows a vat by [lo, hi]; printed for it, and for L, U and D, are the 2n numbers from place 2 of the state on, none if n is above 32
+//   V n t r b         a list of transfers: as M, with t numbers, four to a transfer, in place of the matrix; then its cases:
+//     E               elimination from the list and b
+//     G allowed       sweeps
+//     H allowed       sweeps there and back
 //   C n f s           the narrower of two boxes: n, their lengths, and so many numbers; printed are the length and the numbers of the one handed back
 //   T length          a text: a line end, and so many bytes; then its cases:
 //     R m r           its numbers, into slices of these lengths; n stands for the count
@@ -23,6 +27,7 @@ mod boxes;
 mod file;
 mod halves;
 mod lines;
+mod lists;
 mod steps;
 mod systems;
 mod texts;
@@ -37,6 +42,7 @@ fn run(cases: &[u8], at: usize) -> usize {
     match letter {
         b'+' | b'-' | b'*' | b'/' => steps::step(cases, h),
         b'M' => systems::system(cases, h.at),
+        b'V' => lists::listing(cases, h.at),
         b'C' => boxes::pair(cases, h),
         b'T' => texts::text(cases, h.at),
         b'#' => line_end(cases, h.at),

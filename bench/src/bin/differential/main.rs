@@ -7,7 +7,7 @@ use kifwaleb_bench::comparison::{compare, goals, Elimination, Goal, Pair, Trial}
 use kifwaleb_bench::generator::{
     boxes_up_to, edge_cases, edge_lists, edge_pairs, edge_texts, half_lists_up_to, insides,
     random_cases, random_lists, random_pairs, random_texts, searches, starts_up_to,
-    symmetric_insides,
+    symmetric_insides, transfers_up_to,
 };
 use kifwaleb_bench::plan::{Plan, USAGE};
 use kifwaleb_bench::reference::{Call, Operation, MOST_EQUATIONS};
@@ -39,6 +39,7 @@ fn all_hold(plan: &Plan) -> bool {
         && starts_and_choices_hold(plan)
         && sweeps_hold(plan)
         && half_rows_hold(plan)
+        && transfers_hold(plan)
         && reports_hold(plan)
         && searches_hold(plan)
         && boxes_lie_inside(plan)
@@ -108,6 +109,12 @@ fn half_rows_hold(plan: &Plan) -> bool {
     let lists = half_lists_up_to(MOST_EQUATIONS, plan.seed);
     let (goals, kind) = (goals::of_half_rows(), "random operations");
     holds("half_rows", kind, goals, lists, plan.operations)
+}
+
+fn transfers_hold(plan: &Plan) -> bool {
+    let calls = transfers_up_to(MOST_EQUATIONS, plan.seed);
+    let (goals, kind) = (goals::of_transfers(), "random calls");
+    holds("transfers", kind, goals, calls, plan.transfers)
 }
 
 fn reports_hold(plan: &Plan) -> bool {

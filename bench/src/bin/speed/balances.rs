@@ -44,6 +44,30 @@ pub fn noughts(n: usize) -> Case {
     case
 }
 
+/// With so many of its shares, all over the square; the others are 0.
+pub fn thinned(mut case: Case, wanted: usize) -> Case {
+    let all = case.n * case.n;
+    for (place, ends) in case.matrix.chunks_exact_mut(2).enumerate() {
+        if place * wanted % all >= wanted {
+            ends.fill(0);
+        }
+    }
+    case
+}
+
+/// The list of the shares that are not 0, or of all.
+pub fn listed(square: &Case, noughts: bool) -> Case {
+    let mut lent = square.clone();
+    lent.matrix.clear();
+    for (place, ends) in square.matrix.chunks_exact(2).enumerate() {
+        if noughts || ends != [0, 0] {
+            let vats = [1 + place / lent.n, 1 + place % lent.n].map(|vat| vat as i64);
+            lent.matrix.extend(vats.iter().chain(ends));
+        }
+    }
+    lent
+}
+
 fn dense(n: usize, signed: bool) -> System {
     let mut random = Random::new(n as u64);
     let mut balance = System::noughts(n);

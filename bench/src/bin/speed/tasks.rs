@@ -1,7 +1,7 @@
 //! What is done by both sides.
 
 use crate::balances::{
-    heavy_row, longest, mixed, noughts, shares, slow, slow_noughts, with_wide_box,
+    heavy_row, listed, longest, mixed, noughts, shares, slow, slow_noughts, thinned, with_wide_box,
 };
 use kifwaleb::{HalfRows, LOWEST};
 use kifwaleb_bench::archive::Archive;
@@ -10,7 +10,7 @@ use kifwaleb_bench::generator::{long_named_text, short_named_text};
 use kifwaleb_bench::plain;
 use kifwaleb_bench::reference::Pass::{There, ThereAndBack};
 use kifwaleb_bench::reference::{
-    Call, Outcome, Pass, DONE, FAULTY_ENDS, MOST_SWEEPS, SHEET_LENGTH, SPENT,
+    Call, ListCall, Outcome, Pass, DONE, FAULTY_ENDS, MOST_SWEEPS, SHEET_LENGTH, SPENT,
 };
 use kifwaleb_bench::side::Side as _;
 use kifwaleb_bench::sweep_list::SweepCall;
@@ -21,14 +21,15 @@ pub enum Side {
     /// The archive.
     Ours,
     /// Everyday Rust, or another of the archive's calls: ordinary sweeps against symmetric
-    /// ones, these against half passes, and a half pass against a narrowing.
+    /// ones, these against half passes, a half pass against a narrowing, and the square
+    /// against a list.
     Theirs,
 }
 
 /// What a task is called, and how it is made for so many vats.
 pub type Kind = (&'static str, fn(usize) -> Task);
 
-pub const KINDS: [Kind; 24] = [
+pub const KINDS: [Kind; 30] = [
     ("eliminate-shares", |n| Task::Eliminate(shares(n))),
     ("eliminate-mixed", |n| Task::Eliminate(mixed(n))),
     ("start-shares", |n| Task::Start(shares(n))),
@@ -67,6 +68,22 @@ pub const KINDS: [Kind; 24] = [
     ("narrow-mixed", |n| {
         Task::Narrow([(); 2].map(|()| loaded(&with_wide_box(mixed(n)))))
     }),
+    ("list-eliminate", |n| {
+        Task::few(thinned(shares(n), FEW), ListCall::Eliminate)
+    }),
+    ("list-sweep", |n| {
+        Task::few(with_wide_box(thinned(shares(n), FEW)), ONE_SWEEP)
+    }),
+    ("list-sweeps", |n| {
+        Task::few(slow(thinned(shares(n - 1), FEW - 1)), SWEEPS)
+    }),
+    ("full-eliminate", |n| {
+        Task::full(shares(n), ListCall::Eliminate)
+    }),
+    ("full-sweep", |n| {
+        Task::full(with_wide_box(shares(n)), ONE_SWEEP)
+    }),
+    ("full-sweeps", |n| Task::full(slow(shares(n - 1)), SWEEPS)),
     ("read-longest", |n| Task::report(&crossed(longest(n)))),
     ("read-noughts", |n| {
         Task::on_text(short_named_text(&crossed(noughts(n))))
@@ -92,6 +109,8 @@ pub enum Task {
     Halves(Case, HalfRows),
     /// As loaded, and as the calls of a round leave it.
     Narrow([HalfRows; 2]),
+    /// A list, and the square that it stands for with the start box.
+    Listed(Case, Case, ListCall),
     Report {
         text: Vec<u8>,
         out: Vec<u8>,
@@ -100,6 +119,12 @@ pub enum Task {
 
 /// Of a task with half rows.
 const PASSES: usize = 100;
+
+const ONE_SWEEP: ListCall = ListCall::Sweep(There, 1);
+const SWEEPS: ListCall = ListCall::Sweep(There, 100);
+
+/// The transfers of a list that is not full. A square with fewer shares is listed whole.
+const FEW: usize = 64;
 
 fn loaded(lent: &Case) -> HalfRows {
     let rows = HalfRows::load(lent.n, &lent.matrix, &lent.right_side, &lent.bounds);
@@ -110,6 +135,15 @@ impl Task {
     fn halves(lent: Case) -> Task {
         let rows = loaded(&lent);
         Task::Halves(lent, rows)
+    }
+
+    fn few(square: Case, call: ListCall) -> Task {
+        let whole = square.n * square.n <= FEW;
+        Task::Listed(listed(&square, whole), square, call)
+    }
+
+    fn full(square: Case, call: ListCall) -> Task {
+        Task::Listed(listed(&square, true), square, call)
     }
 
     fn sweep(pass: Pass, lent: Case, allowed: usize) -> Task {
@@ -169,6 +203,7 @@ impl Task {
             }
             Task::Halves(lent, loaded) => side.passes(lent, black_box(loaded)),
             Task::Narrow([_, rows]) => side.narrow(rows),
+            Task::Listed(lent, square, call) => side.listed(lent, black_box(square), *call),
             Task::Report { text, out } => side.report(black_box(text), out),
         }
     }
@@ -184,12 +219,16 @@ impl Task {
         }
         assert!(ours == theirs, "the two sides answer differently");
         let (number, count) = (ours.0.number, ours.0.count);
+        let spent = |sweeps: usize| assert_eq!((number, count), (SPENT, sweeps as u64));
         match self {
-            Task::Sweep { call, .. } => assert_eq!((number, count), (SPENT, call.allowed as u64)),
-            Task::Halves(..) => assert_eq!((number, count), (SPENT, PASSES as u64)),
+            Task::Sweep { call, .. } => spent(call.allowed),
+            Task::Listed(_, _, ListCall::Sweep(_, allowed)) => spent(*allowed),
+            Task::Halves(..) => spent(PASSES),
             // A text that is only read is refused for its first interval.
             Task::Report { .. } => assert!(number == DONE || number == FAULTY_ENDS),
-            Task::Eliminate(_) | Task::Start(_) | Task::Narrow(_) => assert_eq!(number, DONE),
+            Task::Eliminate(_) | Task::Start(_) | Task::Narrow(_) | Task::Listed(..) => {
+                assert_eq!(number, DONE);
+            }
         }
     }
 
@@ -201,6 +240,7 @@ impl Task {
             Task::Eliminate(lent)
             | Task::Start(lent)
             | Task::Sweep { lent, .. }
+            | Task::Listed(lent, ..)
             | Task::Halves(lent, _) => {
                 let bounds = lent.bounds.iter().flat_map(|end| end.to_le_bytes());
                 let left = bounds.collect();
@@ -272,6 +312,21 @@ impl Side {
         Outcome::DONE
     }
 
+    /// Both leave their box with the list.
+    fn listed(self, lent: &mut Case, square: &mut Case, call: ListCall) -> Outcome {
+        let n = lent.n;
+        lent.bounds.copy_from_slice(&square.bounds);
+        let mut slices = lent.slices();
+        if let Side::Ours = self {
+            return Archive.transfers(call, n, slices);
+        }
+        slices.matrix = &mut square.matrix;
+        match call {
+            ListCall::Eliminate => Archive.eliminate(Call::EliminateBalance, n, slices),
+            ListCall::Sweep(pass, allowed) => Archive.sweep(pass, n, slices, allowed),
+        }
+    }
+
     fn report(self, text: &mut [u8], out: &mut [u8]) -> Outcome {
         match self {
             Side::Ours => Archive.report(text, out),
@@ -283,6 +338,7 @@ impl Side {
 #[cfg(test)]
 mod tests {
     use super::*;
+    use kifwaleb_bench::reference::TRANSFER;
 
     #[test]
     fn both_sides_answer_alike() {
@@ -325,6 +381,19 @@ mod tests {
         let fields = text.split(|byte| b";\n".contains(byte));
         let noughts = fields.filter(|field| *field == b"0:0").count();
         assert_eq!(noughts, 33 * 32 - 64 - 8);
+    }
+
+    #[test]
+    fn lists_have_as_many_transfers_as_they_are_meant_to() {
+        for (kind, task) in KINDS {
+            let counts = [4, 8, 16, 32].map(|n| match task(n) {
+                Task::Listed(lent, ..) => lent.matrix.len() / TRANSFER,
+                _ => 0,
+            });
+            let few = kind.starts_with("list").then_some([16, 64, 64, 64]);
+            let full = kind.starts_with("full").then_some([16, 64, 256, 1_024]);
+            assert_eq!(counts, few.or(full).unwrap_or_default(), "{kind}");
+        }
     }
 
     #[test]
