@@ -31,7 +31,7 @@ enum-told : tie.Need-enum-told
 enum-told c = search needs
 
 returns-2 : tie.Need-returns-2
-returns-2 c = sizes-long _ _ (sized-right (c .before)) (rw (length-transfers _) (c .if1 .taken))
+returns-2 c = sizes-long _ _ (sized-right (c .before)) (rw (length-transfers _) (omega (arith, c .if1 .taken)))
 
 mul-t11 : tie.Need-mul-t11
 mul-t11 c = omega (arith, few (c .before))
