@@ -1,14 +1,18 @@
 -- The tests of a call from a list, one after the other; then the square's run.
 use mathlib.Core.Path.{_≡_, refl, sym, ap, _∙_}
-use mathlib.Core.List.{List, [], _∷_}
-use Prim.Native.Nat.{ℕ, _+_, _*_}
+use mathlib.Core.List.{List, [], _∷_, _++_}
+use Prim.Native.Nat.{ℕ, _+_, _*_, _≤_}
+use native.Mathlib.Omega.{arith}
 use lib.IntN.{ℤ, pos}
-use lib.ListN.{length, replicate}
+use lib.ListN.{length, replicate, drop}
+use lib.Seq.{paste}
 use Rattle.outcome.specs.declared.Outcome.{Outcome}
 use Rattle.outcome.specs.Run.{Run, andThen, Returned, returned, ended}
 use Rattle.inputs.specs.declared.Test.{Test}
 use Rattle.inputs.specs.declared.Test.the-variants.{Pass, Fail}
 use Rattle.inputs.specs.Tests.{both, proper, Part, allProper, tested}
+use Rattle.inputs.proofs.Tests.{square as square-few}
+use Rattle.inputs.proofs.Copy.{fronted, pasted-both}
 use Rattle.inputs.specs.System as inputs
 use Rattle.inputs.specs.Code.{Ended}
 use Rattle.rows.specs.Sum.{once}
@@ -27,7 +31,7 @@ use Rattle.transfers.specs.Call.{tests, sweepTests, runList, overList, s
 use Rattle.transfers.specs.Code.{judgement, Entered, listOver}
 use Rattle.transfers.proofs.Judged.{passed}
 use Rattle.transfers.proofs.Sizes.{fitting}
-use Rattle.transfers.proofs.Square.{square-tests, square-sweep-tests}
+use Rattle.transfers.proofs.Square.{length-square, square-before, square-tests, square-sweep-tests}
 
 -- ---- the records' tests, and then the intervals after them
 both-assoc : (t u v : Test) → both t (both u v) ≡ both (both t u) v
@@ -62,6 +66,19 @@ module _ (s : Listing) (ps : List Part) where
 pub square-is : {n : ℕ} {ts : List Transfer} {before after : List ℤ} {r : Test} → Entered n ts before r after → r ≡ Pass → before ≡ replicate (2 * (n * n)) (pos 0) → after ≡ square n ts
 unfolding square
 square-is {n} {ts} e p b = e .matrix p ∙ ap (filled n ts (length ts) 0) b
+
+-- the working copy, from what was put into noughts and the right side behind it
+pub copied-is : (s : Listing) {before t₁ t₂ : List ℤ} {r : Test} → s .size ≤ 32 → Entered (s .size) (s .transfers) before r t₁ → r ≡ Pass → before ≡ replicate 2_112 (pos 0)
+    → t₂ ≡ paste t₁ (2 * (s .size * s .size)) (s .right) (length (s .right)) → t₂ ≡ copied (squared s)
+unfolding copied
+copied-is s {t₁ = t₁} {t₂ = t₂} few e p b g =
+    let n = s .size in
+    let z = replicate 2_112 (pos 0) in
+    let a = square n (s .transfers) in
+    let l : length a ≡ 2 * (n * n) = length-square n (s .transfers) in
+    let q = passed n (s .transfers) (sym (e .said) ∙ p) in
+    let f : t₁ ≡ a ++ drop (length a) z = e .matrix p ∙ ap (filled n (s .transfers) (length (s .transfers)) 0) b ∙ square-before n (s .transfers) q 2_112 (omega (arith, square-few n few)) ∙ ap (λ k. a ++ drop k z) (sym l) in
+    pasted-both z a (s .right) t₁ t₂ (f ∙ sym (fronted z a)) (g ∙ ap (λ k. paste t₁ k (s .right) (length (s .right))) (sym l))
 
 -- ---- elimination
 module _ (s : Listing) (X : List ℤ) where

@@ -1,13 +1,15 @@
 -- The square of a list that passed its tests is a matrix that passes its own.
-use mathlib.Core.Path.{_≡_, refl, ap, _∙_}
+use mathlib.Core.Path.{_≡_, refl, sym, ap, _∙_}
 use mathlib.Core.Bool.{true}
-use mathlib.Core.List.{List, [], _∷_}
+use mathlib.Core.List.{List, [], _∷_, _++_}
 use Prim.Native.Nat.{ℕ, zero, suc, _+_, _*_, _≤_, _<_}
 use native.Mathlib.Omega.{arith}
 use native.Mathlib.Decide.{decLt}
 use borrow.Author.Tests.{eq-eqb}
 use lib.IntN.{ℤ, pos}
-use lib.ListN.{length, take, replicate, getD, length-replicate, getD-replicate, List·getD-eq-default}
+use lib.ListN.{length, take, replicate, getD, length-replicate, getD-replicate, List·getD-eq-default, set, drop, length-set, take-append-drop}
+use lib.Seq.{set-append-left}
+use Rattle.interval.specs.declared.Interval.{Interval}
 use Rattle.interval.specs.Interval.{acceptable}
 use Rattle.inputs.specs.declared.Test.the-variants.{Pass}
 use Rattle.inputs.specs.Place.{put}
@@ -53,6 +55,12 @@ take-noughts zero n h = refl
 take-noughts (suc m) zero h = absurd (omega arith)
 take-noughts (suc m) (suc n) h = ap (λ l. pos 0 ∷ l) (take-noughts m n (omega arith))
 
+put-before : (m rest : List ℤ) (p : ℕ) (v : Interval) → 2 * p + 1 < length m → put (m ++ rest) p v ≡ put m p v ++ rest
+unfolding put
+put-before m rest p v h =
+    ap (λ l. set l (2 * p + 1) (v .hi)) (set-append-left m rest (2 * p) (v .lo) (omega arith))
+    ∙ set-append-left (set m (2 * p) (v .lo)) rest (2 * p + 1) (v .hi) (simp length-set (omega arith))
+
 -- ---- its intervals are intervals
 module _ (n : ℕ) (ts : List Transfer) where
   -- the records k, k + 1, .., d of them, can be put
@@ -60,25 +68,52 @@ module _ (n : ℕ) (ts : List Transfer) where
     vats : (j : ℕ) → j < d → bothVats n (nth ts (k + j)) ≡ true
     shares : (j : ℕ) → j < d → acceptable (share (nth ts (k + j))) ≡ true
 
+  fit-next : {d k : ℕ} → Fit (suc d) k → Fit d (k + 1)
+  fit-next {k = k} f =
+      record {
+        vats = λ j h. let g : k + suc j ≡ k + 1 + j = omega arith in rw g at (f .vats (suc j) (omega arith));
+        shares = λ j h. let g : k + suc j ≡ k + 1 + j = omega arith in rw g at (f .shares (suc j) (omega arith));
+      }
+
+  first-below : {d k : ℕ} → Fit (suc d) k → placeOf n (nth ts k) < n * n
+  first-below {k = k} f = let e : k + 0 ≡ k = omega arith in place-below n (nth ts k) (rw e at (f .vats 0 (omega arith)))
+
   filled-sound : (d k : ℕ) (m : List ℤ) → Fit d k → length m ≡ 2 * (n * n) → Sound m → Sound (filled n ts d k m)
   unfolding filled
   filled-sound zero k m f l s = s
   filled-sound (suc d) k m f l s =
       let t = nth ts k in
       let e : k + 0 ≡ k = omega arith in
-      let p = place-below n t (rw e at (f .vats 0 (omega arith))) in
-      filled-sound d (k + 1) (put m (placeOf n t) (share t))
-      record {
-        vats = λ j h. let g : k + suc j ≡ k + 1 + j = omega arith in rw g at (f .vats (suc j) (omega arith));
-        shares = λ j h. let g : k + suc j ≡ k + 1 + j = omega arith in rw g at (f .shares (suc j) (omega arith));
-      }
-      (length-put m (placeOf n t) (share t) ∙ l) (sound-put m (placeOf n t) (share t) s (omega (arith, l, p)) (rw e at (f .shares 0 (omega arith))))
+      let p = first-below f in
+      filled-sound d (k + 1) (put m (placeOf n t) (share t)) (fit-next f) (length-put m (placeOf n t) (share t) ∙ l)
+      (sound-put m (placeOf n t) (share t) s (omega (arith, l, p)) (rw e at (f .shares 0 (omega arith))))
+
+  -- what stands behind the square stays
+  filled-before : (d k : ℕ) (m rest : List ℤ) → Fit d k → length m ≡ 2 * (n * n) → filled n ts d k (m ++ rest) ≡ filled n ts d k m ++ rest
+  unfolding filled
+  filled-before zero k m rest f l = refl
+  filled-before (suc d) k m rest f l =
+      let t = nth ts k in
+      let p = first-below f in
+      ap (filled n ts d (k + 1)) (put-before m rest (placeOf n t) (share t) (omega (arith, l, p)))
+      ∙ filled-before d (k + 1) (put m (placeOf n t) (share t)) rest (fit-next f) (length-put m (placeOf n t) (share t) ∙ l)
+
+  all-fit : Passed n ts → Fit (length ts) 0
+  all-fit p = record { vats = tried-each _ _ (length ts) 0 (p .vats); shares = tried-each _ _ (length ts) 0 (p .intervals) }
 
   pub square-sound : Passed n ts → Sound (square n ts)
   unfolding square
-  square-sound p =
-      filled-sound (length ts) 0 _ record { vats = tried-each _ _ (length ts) 0 (p .vats); shares = tried-each _ _ (length ts) 0 (p .intervals) }
-      (length-replicate (2 * (n * n)) (pos 0)) (sound-noughts _ (noughts (2 * (n * n))))
+  square-sound p = filled-sound (length ts) 0 _ (all-fit p) (length-replicate (2 * (n * n)) (pos 0)) (sound-noughts _ (noughts (2 * (n * n))))
+
+  -- the list put into more noughts than the square has
+  pub square-before : Passed n ts → (m : ℕ) → 2 * (n * n) ≤ m
+      → filled n ts (length ts) 0 (replicate m (pos 0)) ≡ square n ts ++ drop (2 * (n * n)) (replicate m (pos 0))
+  unfolding square
+  square-before p m h =
+      let z = replicate m (pos 0) in
+      let k = 2 * (n * n) in
+      ap (filled n ts (length ts) 0) (sym (take-append-drop k z) ∙ ap (λ l. l ++ drop k z) (take-noughts k m h))
+      ∙ filled-before (length ts) 0 (replicate k (pos 0)) (drop k z) (all-fit p) (length-replicate k (pos 0))
 
 sound-proper : (t : List ℤ) (d from : ℕ) → Sound t → proper t d 0 from ≡ Pass
 sound-proper t d from s = proper-all t d 0 from (λ k h. s .each (0 + k))

@@ -48,6 +48,20 @@ pub fn solve(n: usize, a: &[i64], f: &[i64], bounds: &mut [i64]) -> Outcome
     finish(n, &mut t, bounds)
 }
 
+// The calculation over B and b, which stand in the working copy.
+pub fn solve_formed(n: usize, t: &mut [i64], bounds: &mut [i64]) -> Outcome
+    requires { ⌜ Working n (now t) × (length (now bounds) ≡ 2 * n) ⌝ }
+    ensures { λ r. ⌜
+        Ended (andThen (formedRows n n 0 (now (t .entry))) (λ t. solved lowestRow once n t)) r (now (bounds .entry)) (now (bounds .exit))
+        ⌝ }
+{
+    let e = formed_rows(n, t);
+    if let Ending::Stopped(o) = e {
+        return o;
+    }
+    finish(n, t, bounds)
+}
+
 // The calculation over B and b.
 pub fn solve_balance(n: usize, b_matrix: &[i64], b: &[i64], bounds: &mut [i64]) -> Outcome
     requires { ⌜ tests (system n (now «b_matrix») (now b)) (length (now bounds)) ≡ Pass ⌝ }
@@ -58,9 +72,5 @@ pub fn solve_balance(n: usize, b_matrix: &[i64], b: &[i64], bounds: &mut [i64]) 
 {
     let mut t = [0i64; 2112];
     copy_in(&mut t, b_matrix, b);
-    let e = formed_rows(n, &mut t);
-    if let Ending::Stopped(o) = e {
-        return o;
-    }
-    finish(n, &mut t, bounds)
+    solve_formed(n, &mut t, bounds)
 }

@@ -1,8 +1,9 @@
 // The calls over records as four numbers each.
 use crate::internal::square::enter;
 use crate::internal::tests::sizes;
-use elimination::internal::solve::solve_balance;
+use elimination::internal::solve::solve_formed;
 use inputs::Test;
+use inputs::internal::copy::fill;
 use inputs::internal::intervals;
 use outcome::Outcome;
 use sweep::Swept;
@@ -20,20 +21,14 @@ ghost use Rattle.transfers.specs.Listing.{listing, sizes};
 ghost use Rattle.transfers.specs.Call.{overList, callList};
 ghost use Rattle.transfers.specs.Code.{transfersOf, listOver};
 
-// Elimination after tests 1 and 2, in the room of a square of noughts.
-fn eliminate_in(
-    n: usize,
-    rs: &[[i64; 4]],
-    square: &mut [i64],
-    b: &[i64],
-    bounds: &mut [i64],
-) -> Outcome
-    requires { ⌜ (sizes (listing n (transfersOf (now rs)) (now b)) (length (now bounds)) ≡ Pass) × (now square ≡ replicate (2 * (n * n)) (pos 0)) ⌝ }
+// Elimination after tests 1 and 2, in a working copy of noughts.
+fn eliminate_in(n: usize, rs: &[[i64; 4]], t: &mut [i64], b: &[i64], bounds: &mut [i64]) -> Outcome
+    requires { ⌜ (sizes (listing n (transfersOf (now rs)) (now b)) (length (now bounds)) ≡ Pass) × (now t ≡ replicate 2_112 (pos 0)) ⌝ }
     ensures { λ r. ⌜
         returned r 0 (now (bounds .exit)) ≡ overList (listing n (transfersOf (now (rs .entry))) (now (b .entry))) (now (bounds .entry))
         ⌝ }
 {
-    let e = enter(n, rs, square);
+    let e = enter(n, rs, t);
     if let Test::Fail(o) = e {
         return o;
     }
@@ -41,7 +36,8 @@ fn eliminate_in(
     if let Test::Fail(o) = r {
         return o;
     }
-    solve_balance(n, square, b, bounds)
+    fill(t, b, 2 * (n * n));
+    solve_formed(n, t, bounds)
 }
 
 // Elimination from records and b.
@@ -54,8 +50,8 @@ pub fn eliminate_records(n: usize, rs: &[[i64; 4]], b: &[i64], bounds: &mut [i64
     if let Test::Fail(o) = s {
         return o;
     }
-    let mut square = [0i64; 2048];
-    eliminate_in(n, rs, &mut square[..2 * (n * n)], b, bounds)
+    let mut t = [0i64; 2112];
+    eliminate_in(n, rs, &mut t, b, bounds)
 }
 
 fn refused(o: Outcome) -> Swept

@@ -36,7 +36,7 @@ fn place(n: usize, t: Transfer) -> usize
 
 // Writes each record to its place, in one go with all its tests; stops at the first record that fails one.
 fn fill(n: usize, rs: &[[i64; 4]], square: &mut [i64]) -> bool
-    requires { ⌜ (n ≤ 32) × (length (now rs) ≤ 1_024) × (length (now square) ≡ 2 * (n * n)) ⌝ }
+    requires { ⌜ (n ≤ 32) × (length (now rs) ≤ 1_024) × (2 * (n * n) ≤ length (now square)) ⌝ }
     ensures { λ r. ⌜ Filled n (transfersOf (now (rs .entry))) (now (square .entry)) r (now (square .exit)) ⌝ }
 {
     let mut next = 0;
@@ -59,9 +59,9 @@ fn fill(n: usize, rs: &[[i64; 4]], square: &mut [i64]) -> bool
     true
 }
 
-// The records' tests; if they pass, the square of noughts becomes that of the list.
+// The records' tests; if they pass, the square of noughts at the beginning becomes that of the list.
 pub fn enter(n: usize, rs: &[[i64; 4]], square: &mut [i64]) -> Test
-    requires { ⌜ (n ≤ 32) × (length (now rs) ≤ 1_024) × (length (now square) ≡ 2 * (n * n)) ⌝ }
+    requires { ⌜ (n ≤ 32) × (length (now rs) ≤ 1_024) × (2 * (n * n) ≤ length (now square)) ⌝ }
     ensures { λ r. ⌜ Entered n (transfersOf (now (rs .entry))) (now (square .entry)) r (now (square .exit)) ⌝ }
 {
     if fill(n, rs, square) {

@@ -1,15 +1,22 @@
 use borrow.Author.Needs.{needs}
 use mathlib.Core.Path.{_≡_, sym, ap, _∙_}
+use Prim.Native.Nat.{_*_, _≤_}
 use native.Mathlib.Omega.{arith}
 use denote.Ref.{now}
+use lib.IntN.{pos}
 use lib.ListN.{length, length-replicate}
 use Rattle.inputs.specs.declared.Test.the-variants.{Pass}
 use Rattle.inputs.specs.Tests.{proper}
-use Rattle.transfers.specs.Listing.{Listing, listing, square}
+use Rattle.inputs.proofs.Tests.{square as square-few}
+use Rattle.inputs.specs.System.{tests}
+use Rattle.inputs.proofs.System.{ready}
+use Rattle.elimination.specs.Call.{copied}
+use Rattle.elimination.proofs.Call.{copied-working}
+use Rattle.transfers.specs.Listing.{Listing, listing, squared}
 use Rattle.transfers.specs.Code.{transfersOf, judgement}
 use Rattle.transfers.proofs.Records.{length-transfers}
 use Rattle.transfers.proofs.Sizes.{Fitting, fitting}
-use Rattle.transfers.proofs.Call.{square-is, list-records, list-right, list-ready, list-runs}
+use Rattle.transfers.proofs.Call.{copied-is, list-records, list-right, list-ready, list-runs}
 use Rattle.transfers.proofs.internal.calls.eliminate_in.Statement.{statement}
 use Rattle.transfers.proofs.internal.calls.eliminate_in.Tie as tie
 
@@ -19,21 +26,38 @@ lent c = listing (c .args .n) (transfersOf (now (c .args .rs))) (now (c .args .b
 fits : (c : tie.Start) → Fitting (lent c) (length (now (c .args .bounds)))
 fits c = fitting _ _ (c .pre .0)
 
--- the records' tests have passed, and the square is filled
+-- the records' tests have passed
 judged : (c : tie.After-enum-told) → let s = lent (c .before .before .before .before .before) in judgement (s .size) (s .transfers) ≡ Pass
 judged c = sym (c .before .before .before .enter .ensures .said) ∙ c .enum-told .given .1
-
-filled : (c : tie.After-enum-told) → let s = lent (c .before .before .before .before .before) in c .before .before .before .enter .last .1 .1 .0 ≡ square (s .size) (s .transfers)
-filled c = square-is (c .before .before .before .enter .ensures) (c .enum-told .given .1) (c .before .before .before .before .before .pre .1)
 
 -- the right side counts on after the records
 right : (c : tie.After-intervals) → let s = lent (c .before .before .before .before .before .before) in c .intervals .result ≡ proper (s .right) (s .size) 0 (length (s .transfers))
 right c = c .intervals .ensures ∙ ap (proper _ _ 0) (sym (length-transfers _))
 
+righted : (c : tie.After-enum-told2) → let s = lent (c .before .before .before .before .before .before .before .before) in proper (s .right) (s .size) 0 (length (s .transfers)) ≡ Pass
+righted c = sym (right (c .before .before)) ∙ c .enum-told2 .given .1
+
+-- the working copy has the square and the right side
+copied-here : (c : tie.After-fill) → c .fill .last .0 ≡ copied (squared (lent (c .before .before .before .before .before .before .before .before .before .before)))
+copied-here c =
+    let e = c .before .before .before .before .before in
+    let s = e .before .before .before .before .before in
+    copied-is (lent s) (fits s .few) (e .before .before .before .enter .ensures) (e .enum-told .given .1) (s .pre .1) (c .fill .ensures)
+
+passes : (c : tie.After-enum-told2) → let s = c .before .before .before .before .before .before .before .before in tests (squared (lent s)) (length (now (s .args .bounds))) ≡ Pass
+passes c =
+    let e = c .before .before .before in
+    let s = e .before .before .before .before .before in
+    list-ready (lent s) (now (s .args .bounds)) (s .pre .0) (judged e) (righted c)
+
+few : (s : tie.Start) → let n = s .args .n in n * n ≤ 1024
+few s = square-few _ (fits s .few)
+
 enter-requires : tie.Need-enter-requires
 enter-requires c κs =
     let f = fits (c .before) in
-    (f .few, rw (length-transfers _) at (f .short), ap length (c .before .pre .1) ∙ length-replicate _ _)
+    let l = ap length (c .before .pre .1) ∙ length-replicate 2_112 (pos 0) in
+    (f .few, rw (length-transfers _) at (f .short), omega (arith, l, square-few _ (f .few)))
 
 enum-known-e : tie.Need-enum-known-e
 enum-known-e c = search needs
@@ -66,12 +90,24 @@ returns-2 c =
 enum-told-2 : tie.Need-enum-told-2
 enum-told-2 c = search needs
 
-solve-balance-requires : tie.Need-solve-balance-requires
-solve-balance-requires c κs =
-    let r = c .before .before in
-    let e = r .before .before .before in
+mul-fill : tie.Need-mul-fill
+mul-fill c = record { fits = omega (arith, few (c .before .before .before .before .before .before .before .before .before)) }
+
+mul-fill-2 : tie.Need-mul-fill-2
+mul-fill-2 c = record { fits = omega (arith, few (c .before .before .before .before .before .before .before .before .before)) }
+
+fill-requires : tie.Need-fill-requires
+fill-requires c κs =
+    let e = c .before .before .before .before in
     let s = e .before .before .before .before .before in
-    rw (filled e) (list-ready (lent s) (now (s .args .bounds)) (s .pre .0) (judged e) (sym (right (r .before .before)) ∙ r .enum-told2 .given .1))
+    let l = e .before .before .before .enter .kept .1 .1 .0 ∙ ap length (s .pre .1) ∙ length-replicate 2_112 (pos 0) in
+    omega (arith, l, few s, fits s .few, fits s .right)
+
+solve-formed-requires : tie.Need-solve-formed-requires
+solve-formed-requires c κs =
+    let f = c .before .before .before in
+    let r = ready _ _ (passes (f .before .before)) in
+    (rw (copied-here f) (copied-working _ _ r), r .fitting .box)
 
 same-length-3 : tie.Need-same-length-3
 same-length-3 c = search needs
@@ -81,9 +117,10 @@ same-length-4 c = search needs
 
 returns-3 : tie.Need-returns-3
 returns-3 c =
-    let r = c .before .before .before .before in
+    let f = c .before .before .before .before .before .before in
+    let r = f .before .before in
     let e = r .before .before .before in
-    list-runs _ _ (e .before .before .before .before .before .pre .0) (judged e) (sym (right (r .before .before)) ∙ r .enum-told2 .given .1) (rw (filled e) at (c .before .solve-balance .ensures))
+    list-runs _ _ (e .before .before .before .before .before .pre .0) (judged e) (righted r) (rw (copied-here f) at (c .before .before .solve-formed .ensures))
 
 pub eliminate-in-spec : {M : Type 1} → statement M
 eliminate-in-spec =
@@ -99,7 +136,10 @@ eliminate-in-spec =
     same-length-2
     returns-2
     enum-told-2
-    solve-balance-requires
+    mul-fill
+    mul-fill-2
+    fill-requires
+    solve-formed-requires
     same-length-3
     same-length-4
     returns-3)

@@ -1,16 +1,10 @@
 use borrow.Author.Needs.{needs}
-use mathlib.Core.Path.{_≡_, sym, _∙_}
-use Prim.Native.Nat.{_*_, _≤_}
-use native.Mathlib.Omega.{arith}
+use mathlib.Core.Path.{_≡_, refl, sym, _∙_}
 use denote.Ref.{now}
 use lib.ListN.{length}
-use lib.Seq.{length-take-le}
 use Rattle.inputs.specs.declared.Test.the-variants.{Pass}
-use Rattle.inputs.proofs.Tests.{square}
 use Rattle.transfers.specs.Listing.{Listing, listing, sizes}
 use Rattle.transfers.specs.Code.{transfersOf}
-use Rattle.transfers.proofs.Sizes.{fitting}
-use Rattle.transfers.proofs.Square.{take-noughts}
 use Rattle.transfers.proofs.Call.{list-sizes}
 use Rattle.transfers.proofs.internal.calls.eliminate_records.Statement.{statement}
 use Rattle.transfers.proofs.internal.calls.eliminate_records.Tie as tie
@@ -21,10 +15,6 @@ lent c = listing (c .args .n) (transfersOf (now (c .args .rs))) (now (c .args .b
 -- tests 1 and 2 have passed
 sized : (c : tie.After-enum-told) → let s = c .before .before .before .before in sizes (lent s) (length (now (s .args .bounds))) ≡ Pass
 sized c = sym (c .before .before .sizes .ensures) ∙ c .enum-told .given .1
-
--- the square has room
-room : (c : tie.After-enum-told) → let n = c .before .before .before .before .args .n in 2 * (n * n) ≤ 2048
-room c = omega (arith, square _ (fitting _ _ (sized c) .few))
 
 sizes-requires : tie.Need-sizes-requires
 sizes-requires c κs = search needs
@@ -41,20 +31,11 @@ returns c = list-sizes _ _ (sym (c .before .before .before .sizes .ensures) ∙ 
 enum-told : tie.Need-enum-told
 enum-told c = search needs
 
-mul-square : tie.Need-mul-square
-mul-square c = record { fits = omega (arith, room c) }
-
-mul-square-2 : tie.Need-mul-square-2
-mul-square-2 c = record { fits = omega (arith, room c) }
-
-array-borrow-prefix-square : tie.Need-array-borrow-prefix-square
-array-borrow-prefix-square c = room c
-
 slice-aggregate-eliminate-in : tie.Need-slice-aggregate-eliminate-in
-slice-aggregate-eliminate-in c = sym (length-take-le _ _ (room (c .before)))
+slice-aggregate-eliminate-in c = search needs
 
 eliminate-in-requires : tie.Need-eliminate-in-requires
-eliminate-in-requires c κs = let e = c .before .before in (sized e, take-noughts _ 2048 (room e))
+eliminate-in-requires c κs = (sized (c .before .before), refl)
 
 same-length-2 : tie.Need-same-length-2
 same-length-2 c = search needs
@@ -71,9 +52,6 @@ eliminate-records-spec =
     same-length
     returns
     enum-told
-    mul-square
-    mul-square-2
-    array-borrow-prefix-square
     slice-aggregate-eliminate-in
     eliminate-in-requires
     same-length-2

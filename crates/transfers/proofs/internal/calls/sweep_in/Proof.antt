@@ -1,8 +1,9 @@
 use borrow.Author.Needs.{needs}
 use mathlib.Core.Path.{_≡_, sym, ap, _∙_}
-use Prim.Native.Nat.{_+_}
+use Prim.Native.Nat.{_+_, _*_}
 use native.Mathlib.Omega.{arith}
 use denote.Ref.{now}
+use lib.IntN.{pos}
 use lib.ListN.{length, length-replicate}
 use Rattle.inputs.specs.declared.Test.the-variants.{Pass}
 use Rattle.inputs.specs.Tests.{proper}
@@ -53,7 +54,7 @@ boxed c = sym (box (c .before .before)) ∙ c .enum-told3 .given .1
 enter-requires : tie.Need-enter-requires
 enter-requires c κs =
     let f = fits (c .before) in
-    (f .few, rw (length-transfers _) at (f .short), ap length (c .before .pre .0 .1) ∙ length-replicate _ _)
+    (f .few, rw (length-transfers _) at (f .short), omega (arith, ap length (c .before .pre .0 .1) ∙ length-replicate (2 * (c .before .args .n * c .before .args .n)) (pos 0)))
 
 enum-known-e : tie.Need-enum-known-e
 enum-known-e c = search needs
