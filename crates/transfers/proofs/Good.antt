@@ -13,7 +13,7 @@ use Rattle.interval.proofs.Range.{and-both}
 use Rattle.inputs.specs.declared.Test.the-variants.{Pass}
 use Rattle.inputs.specs.Tests.{both}
 use Rattle.transfers.specs.declared.Transfer.{Transfer}
-use Rattle.transfers.specs.Listing.{nth, share, bothVats, follows, entries, placeOf}
+use Rattle.transfers.specs.Listing.{nth, share, bothComponents, follows, entries, placeOf}
 use Rattle.transfers.specs.Code.{allGood, judgement}
 use Rattle.transfers.proofs.Tried.{tried-each, tried-all}
 use Rattle.transfers.proofs.Order.{place-rises, rises-follows}
@@ -33,11 +33,11 @@ module _ (n : ℕ) (ts : List Transfer) (count k next : ℕ) where
     left : count - k ≡ suc (count - (k + 1))
     left = omega arith
 
-    pub good-unknown : bothVats n (nth ts k) ≡ false → allGood n ts (count - k) k next ≡ false
+    pub good-unknown : bothComponents n (nth ts k) ≡ false → allGood n ts (count - k) k next ≡ false
     unfolding allGood
     good-unknown v = rw (left, v)
 
-    module _ (v : bothVats n (nth ts k) ≡ true) where
+    module _ (v : bothComponents n (nth ts k) ≡ true) where
       pub good-before : placeOf n (nth ts k) < next → allGood n ts (count - k) k next ≡ false
       unfolding allGood
       good-before l = rw (left, v, lt-leb next (placeOf n (nth ts k)) l)
@@ -57,21 +57,21 @@ module _ (n : ℕ) (ts : List Transfer) where
   P k = placeOf n (nth ts k)
 
   record Good (d k next : ℕ) : Type 0 where
-    vats : (j : ℕ) → j < d → bothVats n (nth ts (k + j)) ≡ true
+    components : (j : ℕ) → j < d → bothComponents n (nth ts (k + j)) ≡ true
     proper : (j : ℕ) → j < d → acceptable (share (nth ts (k + j))) ≡ true
     first : 0 < d → next ≤ P k
     rises : (j : ℕ) → j + 1 < d → P (k + j) < P (k + j + 1)
 
   each : (d k next : ℕ) → allGood n ts d k next ≡ true → Good d k next
   unfolding allGood
-  each zero k next e = record { vats = λ j h. absurd (omega arith); proper = λ j h. absurd (omega arith); first = λ h. absurd (omega arith); rises = λ j h. absurd (omega arith) }
+  each zero k next e = record { components = λ j h. absurd (omega arith); proper = λ j h. absurd (omega arith); first = λ h. absurd (omega arith); rises = λ j h. absurd (omega arith) }
   each (suc d) k next e =
-      let v = and-both (bothVats n (nth ts k)) _ e in
+      let v = and-both (bothComponents n (nth ts k)) _ e in
       let l = and-both (leb next (P k)) _ (v .1) in
       let a = and-both (acceptable (share (nth ts k))) _ (l .1) in
       let g = each d (k + 1) (P k + 1) (a .1) in
       record {
-        vats = from-first (λ q. bothVats n (nth ts q) ≡ true) d k (v .0) (g .vats);
+        components = from-first (λ q. bothComponents n (nth ts q) ≡ true) d k (v .0) (g .components);
         proper = from-first (λ q. acceptable (share (nth ts q)) ≡ true) d k (a .0) (g .proper);
         first = λ h. leb-true next (P k) (l .0);
         rises = λ j h. go g j h;
@@ -86,12 +86,12 @@ module _ (n : ℕ) (ts : List Transfer) where
   all-good zero k next g = refl
   all-good (suc d) k next g =
       let e : k + 0 ≡ k = omega arith in
-      let v : bothVats n (nth ts k) ≡ true = rw e at (g .vats 0 (omega arith)) in
+      let v : bothComponents n (nth ts k) ≡ true = rw e at (g .components 0 (omega arith)) in
       let a : acceptable (share (nth ts k)) ≡ true = rw e at (g .proper 0 (omega arith)) in
       rw (v, le-leb next (P k) (g .first (omega arith)), a)
       (all-good d (k + 1) (P k + 1)
       record {
-        vats = λ j h. let f : k + suc j ≡ k + 1 + j = omega arith in rw f at (g .vats (suc j) (omega arith));
+        components = λ j h. let f : k + suc j ≡ k + 1 + j = omega arith in rw f at (g .components (suc j) (omega arith));
         proper = λ j h. let f : k + suc j ≡ k + 1 + j = omega arith in rw f at (g .proper (suc j) (omega arith));
         first = λ h. let r : P k < P (k + 1) = rw e at (g .rises 0 (omega arith)) in omega (arith, r);
         rises = λ j h. let f : k + suc j ≡ k + 1 + j = omega arith in rw f at (g .rises (suc j) (omega arith));
@@ -102,21 +102,21 @@ module _ (n : ℕ) (ts : List Transfer) where
   unfolding judgement entries both
   good-passes e =
       let g = each (length ts) 0 0 e in
-      rw (tried-all _ _ (length ts) 0 (g .vats), tried-all _ _ (length ts - 1) 1 (order g), tried-all _ _ (length ts) 0 (g .proper))
+      rw (tried-all _ _ (length ts) 0 (g .components), tried-all _ _ (length ts - 1) 1 (order g), tried-all _ _ (length ts) 0 (g .proper))
     where
       order : Good (length ts) 0 0 → (j : ℕ) → j < length ts - 1 → follows (nth ts (1 + j - 1)) (nth ts (1 + j)) ≡ true
       order g j h =
           let e : 1 + j - 1 ≡ j = omega arith in
           let f : 1 + j ≡ j + 1 = omega arith in
-          rw (e, f) (rises-follows n (nth ts j) (nth ts (j + 1)) (rw (zero-add j) at (g .vats j (omega arith))) (rw (zero-add (j + 1)) at (g .vats (j + 1) (omega arith))) (rw (zero-add j) at (g .rises j (omega arith))))
+          rw (e, f) (rises-follows n (nth ts j) (nth ts (j + 1)) (rw (zero-add j) at (g .components j (omega arith))) (rw (zero-add (j + 1)) at (g .components (j + 1) (omega arith))) (rw (zero-add j) at (g .rises j (omega arith))))
 
   pub passes-good : judgement n ts ≡ Pass → allGood n ts (length ts) 0 0 ≡ true
   passes-good e =
       let p = passed n ts e in
-      let v = tried-each _ _ (length ts) 0 (p .vats) in
+      let v = tried-each _ _ (length ts) 0 (p .components) in
       all-good (length ts) 0 0
       record {
-        vats = v;
+        components = v;
         proper = tried-each _ _ (length ts) 0 (p .intervals);
         first = λ h. omega arith;
         rises = λ j h.

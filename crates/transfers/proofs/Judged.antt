@@ -32,7 +32,7 @@ module _ (n : ℕ) (rs : List (List ℤ)) where
 
 -- a list that passed
 pub record Passed (n : ℕ) (ts : List Transfer) : Type 0 where
-  pub vats : known n ts (length ts) 0 ≡ Pass
+  pub components : known n ts (length ts) 0 ≡ Pass
   pub order : ordered ts (length ts - 1) 1 ≡ Pass
   pub intervals : shares ts (length ts) 0 ≡ Pass
 
@@ -41,4 +41,4 @@ unfolding judgement entries
 passed n ts e =
     let f = both-pass _ _ e in
     let g = both-pass _ _ (f .0) in
-    record { vats = g .0; order = g .1; intervals = f .1 }
+    record { components = g .0; order = g .1; intervals = f .1 }

@@ -1,6 +1,6 @@
 pub mod Records
 pub mod Tried
-pub mod Vat
+pub mod Component
 pub mod Order
 pub mod Filled
 pub mod Judged

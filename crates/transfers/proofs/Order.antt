@@ -13,8 +13,8 @@ use Rattle.interval.proofs.Range.{and-both}
 use Rattle.inputs.specs.Place.{cell}
 use Rattle.inputs.proofs.Tests.{rows-apart}
 use Rattle.transfers.specs.declared.Transfer.{Transfer}
-use Rattle.transfers.specs.Listing.{bothVats, follows, placeOf}
-use Rattle.transfers.proofs.Vat.{Vat, vat, vat-row, receiver, giver}
+use Rattle.transfers.specs.Listing.{bothComponents, follows, placeOf}
+use Rattle.transfers.proofs.Component.{Component, component, component-row, receiver, giver}
 
 either : (a b : Bool) → (a || b) ≡ true → (a ≡ true) ⊎ (b ≡ true)
 either true b e = inl refl
@@ -39,18 +39,18 @@ falling n i j k l h a = go (decLt i k) (decLt k i)
         let f : i * n ≡ k * n = ap (λ x. x * n) q in
         inr (omega (arith, q), omega (arith, a, f))
 
-module _ (n : ℕ) (s t : Transfer) (e : bothVats n s ≡ true) (f : bothVats n t ≡ true) where
-  a : Vat n (s .receiver)
-  a = vat n (s .receiver) (receiver n s e)
+module _ (n : ℕ) (s t : Transfer) (e : bothComponents n s ≡ true) (f : bothComponents n t ≡ true) where
+  a : Component n (s .receiver)
+  a = component n (s .receiver) (receiver n s e)
 
-  b : Vat n (s .giver)
-  b = vat n (s .giver) (giver n s e)
+  b : Component n (s .giver)
+  b = component n (s .giver) (giver n s e)
 
-  c : Vat n (t .receiver)
-  c = vat n (t .receiver) (receiver n t f)
+  c : Component n (t .receiver)
+  c = component n (t .receiver) (receiver n t f)
 
-  d : Vat n (t .giver)
-  d = vat n (t .giver) (giver n t f)
+  d : Component n (t .giver)
+  d = component n (t .giver) (giver n t f)
 
   -- in rows and columns from 0
   told : follows s t ≡ (ltb (a .row + 1) (c .row + 1) || (leb (a .row + 1) (c .row + 1) && ltb (b .row + 1) (d .row + 1)))
@@ -59,7 +59,7 @@ module _ (n : ℕ) (s t : Transfer) (e : bothVats n s ≡ true) (f : bothVats n 
 
   pub place-rises : follows s t ≡ true → placeOf n s < placeOf n t
   unfolding placeOf
-  place-rises g = rw (vat-row a, vat-row b, vat-row c, vat-row d) (rising n (a .row) (b .row) (c .row) (d .row) (b .below) (go (a .row) (b .row) (c .row) (d .row) (either _ _ (sym told ∙ g))))
+  place-rises g = rw (component-row a, component-row b, component-row c, component-row d) (rising n (a .row) (b .row) (c .row) (d .row) (b .below) (go (a .row) (b .row) (c .row) (d .row) (either _ _ (sym told ∙ g))))
     where
       go : (p q r s : ℕ) → (ltb (p + 1) (r + 1) ≡ true) ⊎ ((leb (p + 1) (r + 1) && ltb (q + 1) (s + 1)) ≡ true) → After p q r s
       go p q r s (inl l) = let l₁ = ltb-true (p + 1) (r + 1) l in inl (omega (arith, l₁))
@@ -71,7 +71,7 @@ module _ (n : ℕ) (s t : Transfer) (e : bothVats n s ≡ true) (f : bothVats n 
 
   pub rises-follows : placeOf n s < placeOf n t → follows s t ≡ true
   unfolding placeOf
-  rises-follows h = told ∙ go (a .row) (b .row) (c .row) (d .row) (falling n (a .row) (b .row) (c .row) (d .row) (d .below) (rw (vat-row a, vat-row b, vat-row c, vat-row d) at h))
+  rises-follows h = told ∙ go (a .row) (b .row) (c .row) (d .row) (falling n (a .row) (b .row) (c .row) (d .row) (d .below) (rw (component-row a, component-row b, component-row c, component-row d) at h))
     where
       or-true : (x : Bool) → (x || true) ≡ true
       or-true true = refl

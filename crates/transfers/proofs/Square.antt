@@ -20,18 +20,18 @@ use Rattle.inputs.proofs.Tests.{sized-yes, proper-all}
 use Rattle.inputs.proofs.Place.{cell-before, length-put, sound-put, sound-noughts, proper-sound}
 use Rattle.sweep.specs.Call as sweep
 use Rattle.transfers.specs.declared.Transfer.{Transfer}
-use Rattle.transfers.specs.Listing.{Listing, nth, share, bothVats, placeOf, filled, square, squared}
-use Rattle.transfers.proofs.Vat.{vat, vat-row, receiver, giver}
+use Rattle.transfers.specs.Listing.{Listing, nth, share, bothComponents, placeOf, filled, square, squared}
+use Rattle.transfers.proofs.Component.{component, component-row, receiver, giver}
 use Rattle.transfers.proofs.Tried.{tried-each}
 use Rattle.transfers.proofs.Judged.{Passed}
 use Rattle.transfers.proofs.Sizes.{Fitting}
 
-pub place-below : (n : ℕ) (t : Transfer) → bothVats n t ≡ true → placeOf n t < n * n
+pub place-below : (n : ℕ) (t : Transfer) → bothComponents n t ≡ true → placeOf n t < n * n
 unfolding placeOf
 place-below n t e =
-    let r = vat n (t .receiver) (receiver n t e) in
-    let g = vat n (t .giver) (giver n t e) in
-    rw (vat-row r, vat-row g) (cell-before n (r .row) (g .row) (r .below) (g .below))
+    let r = component n (t .receiver) (receiver n t e) in
+    let g = component n (t .giver) (giver n t e) in
+    rw (component-row r, component-row g) (cell-before n (r .row) (g .row) (r .below) (g .below))
 
 pub length-filled : (n : ℕ) (ts : List Transfer) (d k : ℕ) (m : List ℤ) → length (filled n ts d k m) ≡ length m
 unfolding filled
@@ -65,18 +65,18 @@ put-before m rest p v h =
 module _ (n : ℕ) (ts : List Transfer) where
   -- the records k, k + 1, .., d of them, can be put
   record Fit (d k : ℕ) : Type 0 where
-    vats : (j : ℕ) → j < d → bothVats n (nth ts (k + j)) ≡ true
+    components : (j : ℕ) → j < d → bothComponents n (nth ts (k + j)) ≡ true
     shares : (j : ℕ) → j < d → acceptable (share (nth ts (k + j))) ≡ true
 
   fit-next : {d k : ℕ} → Fit (suc d) k → Fit d (k + 1)
   fit-next {k = k} f =
       record {
-        vats = λ j h. let g : k + suc j ≡ k + 1 + j = omega arith in rw g at (f .vats (suc j) (omega arith));
+        components = λ j h. let g : k + suc j ≡ k + 1 + j = omega arith in rw g at (f .components (suc j) (omega arith));
         shares = λ j h. let g : k + suc j ≡ k + 1 + j = omega arith in rw g at (f .shares (suc j) (omega arith));
       }
 
   first-below : {d k : ℕ} → Fit (suc d) k → placeOf n (nth ts k) < n * n
-  first-below {k = k} f = let e : k + 0 ≡ k = omega arith in place-below n (nth ts k) (rw e at (f .vats 0 (omega arith)))
+  first-below {k = k} f = let e : k + 0 ≡ k = omega arith in place-below n (nth ts k) (rw e at (f .components 0 (omega arith)))
 
   filled-sound : (d k : ℕ) (m : List ℤ) → Fit d k → length m ≡ 2 * (n * n) → Sound m → Sound (filled n ts d k m)
   unfolding filled
@@ -99,7 +99,7 @@ module _ (n : ℕ) (ts : List Transfer) where
       ∙ filled-before d (k + 1) (put m (placeOf n t) (share t)) rest (fit-next f) (length-put m (placeOf n t) (share t) ∙ l)
 
   all-fit : Passed n ts → Fit (length ts) 0
-  all-fit p = record { vats = tried-each _ _ (length ts) 0 (p .vats); shares = tried-each _ _ (length ts) 0 (p .intervals) }
+  all-fit p = record { components = tried-each _ _ (length ts) 0 (p .components); shares = tried-each _ _ (length ts) 0 (p .intervals) }
 
   pub square-sound : Passed n ts → Sound (square n ts)
   unfolding square

@@ -18,7 +18,7 @@ use Rattle.sweep.specs.declared.Swept.{Swept}
 use Rattle.sweep.specs.Calls.{Call, runOver}
 use Rattle.sweep.specs.Code.{pass}
 use Rattle.transfers.specs.declared.Transfer.{Transfer}
-use Rattle.transfers.specs.Listing.{Listing, listing, nth, share, bothVats, entries, shares, placeOf, filled, squared}
+use Rattle.transfers.specs.Listing.{Listing, listing, nth, share, bothComponents, entries, shares, placeOf, filled, squared}
 use Rattle.transfers.specs.Call.{sweepTests, overList, callList}
 
 -- ---- a record as four numbers
@@ -47,7 +47,7 @@ gathered ts = recordsOf (take (min 1_024 (length ts)) ts) ++ drop (min 1_024 (le
 unfoldable pub allGood : (n : ℕ) → List Transfer → (d k next : ℕ) → Bool
 allGood n ts zero k next = true
 allGood n ts (suc d) k next =
-    bothVats n (nth ts k) && (leb next (placeOf n (nth ts k)) && (acceptable (share (nth ts k)) && allGood n ts d (k + 1) (placeOf n (nth ts k) + 1)))
+    bothComponents n (nth ts k) && (leb next (placeOf n (nth ts k)) && (acceptable (share (nth ts k)) && allGood n ts d (k + 1) (placeOf n (nth ts k) + 1)))
 
 -- a sweep call whose passes have so many halves
 unfoldable pub listOver : (halves : ℕ) → Listing → (allowed : ℕ) → List ℤ → Returned (List ℤ)

@@ -48,14 +48,14 @@ tried p o zero k = Pass
 tried p o (suc d) k = both (need (p k) (o k)) (tried p o d (k + 1))
 
 -- 11: 'a vat number outside 1 to n'
-unfoldable pub isVat : ℕ → ℤ → Bool
-isVat n v = leZ (pos 1) v && leZ v (pos n)
+unfoldable pub isComponent : ℕ → ℤ → Bool
+isComponent n v = leZ (pos 1) v && leZ v (pos n)
 
-unfoldable pub bothVats : ℕ → Transfer → Bool
-bothVats n t = isVat n (t .receiver) && isVat n (t .giver)
+unfoldable pub bothComponents : ℕ → Transfer → Bool
+bothComponents n t = isComponent n (t .receiver) && isComponent n (t .giver)
 
 abbrev pub known : (n : ℕ) → List Transfer → (d k : ℕ) → Test
-known n ts = tried (λ k. bothVats n (nth ts k)) outcome.OutOfMatrix
+known n ts = tried (λ k. bothComponents n (nth ts k)) outcome.OutOfMatrix
 
 -- 12: 'a record not after its predecessor by receiving and then giving vat'
 unfoldable pub follows : Transfer → Transfer → Bool

@@ -34,7 +34,7 @@ module _ (n : ℕ) (ts : List Transfer) (e : entries n ts ≡ Pass) where
   unfolding entries
   in-square f =
       let b = both-pass _ _ e in
-      let s = square-sound n ts record { vats = b .0; order = b .1; intervals = f } in
+      let s = square-sound n ts record { components = b .0; order = b .1; intervals = f } in
       proper-all (square n ts) (n * n) 0 0 (λ k h. s .each (0 + k))
 
   in-list : proper (square n ts) (n * n) 0 0 ≡ Pass → shares ts (length ts) 0 ≡ Pass

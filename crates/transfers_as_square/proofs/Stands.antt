@@ -15,8 +15,8 @@ use Rattle.inputs.specs.Place.{at, put, cell}
 use Rattle.inputs.proofs.Tests.{both-pass, rows-apart}
 use Rattle.inputs.proofs.Place.{length-put, at-put-same, at-put-other}
 use Rattle.transfers.specs.declared.Transfer.{Transfer}
-use Rattle.transfers.specs.Listing.{nth, share, bothVats, entries, placeOf, filled, square}
-use Rattle.transfers.proofs.Vat.{vat, vat-row, receiver, giver}
+use Rattle.transfers.specs.Listing.{nth, share, bothComponents, entries, placeOf, filled, square}
+use Rattle.transfers.proofs.Component.{component, component-row, receiver, giver}
 use Rattle.transfers.proofs.Tried.{tried-each}
 use Rattle.transfers.proofs.Order.{place-rises}
 use Rattle.transfers.proofs.Square.{place-below, noughts}
@@ -63,16 +63,16 @@ module _ (n : ℕ) (ts : List Transfer) where
 
   -- ---- a list that passes 11 and 12
   module _ (passes : entries n ts ≡ Pass) where
-    vats : (k : ℕ) → k < length ts → bothVats n (nth ts k) ≡ true
+    components : (k : ℕ) → k < length ts → bothComponents n (nth ts k) ≡ true
     unfolding entries
-    vats k h = rw (zero-add k) at (tried-each _ _ (length ts) 0 (both-pass _ _ passes .0) k h)
+    components k h = rw (zero-add k) at (tried-each _ _ (length ts) 0 (both-pass _ _ passes .0) k h)
 
     next : (k : ℕ) → k + 1 < length ts → P k < P (k + 1)
     unfolding entries
     next k h =
         let e : 1 + k ≡ k + 1 = omega arith in
         let f : k + 1 - 1 ≡ k = omega arith in
-        place-rises n _ _ (vats k (omega arith)) (vats (k + 1) h) (rw (e, f) at (tried-each _ _ (length ts - 1) 1 (both-pass _ _ passes .1) k (omega arith)))
+        place-rises n _ _ (components k (omega arith)) (components (k + 1) h) (rw (e, f) at (tried-each _ _ (length ts - 1) 1 (both-pass _ _ passes .1) k (omega arith)))
 
     rises : (k d : ℕ) → k + d + 1 < length ts → P k < P (k + d + 1)
     rises k zero h = let e : k + 0 + 1 ≡ k + 1 = omega arith in rw e (next k (omega arith))
@@ -91,13 +91,13 @@ module _ (n : ℕ) (ts : List Transfer) where
     pub own-place : (k : ℕ) → k < length ts → at (square n ts) (P k) ≡ share (nth ts k)
     unfolding square
     own-place k h =
-        let b = place-below n (nth ts k) (vats k h) in
+        let b = place-below n (nth ts k) (components k h) in
         let l = length-replicate (2 * (n * n)) (pos 0) in
         rw (zero-add k) at
         (at-own (length ts) 0 (replicate (2 * (n * n)) (pos 0)) k h (rw (zero-add k, l) (omega (arith, b))) (λ i f g. rw (zero-add k, zero-add i) (apart k i f g)))
 
     pub place-within : (k : ℕ) → k < length ts → P k < n * n
-    place-within k h = place-below n (nth ts k) (vats k h)
+    place-within k h = place-below n (nth ts k) (components k h)
 
     -- the place of a pair
     at-cell : (t : Transfer) (i j : ℕ) → Of t i j → placeOf n t ≡ cell n i j
@@ -111,9 +111,9 @@ module _ (n : ℕ) (ts : List Transfer) where
     unfolding placeOf
     of-cell k i j h b e =
         let t = nth ts k in
-        let r = vat n (t .receiver) (receiver n t (vats k h)) in
-        let g = vat n (t .giver) (giver n t (vats k h)) in
-        let q = cell-same n i j (r .row) (g .row) b (g .below) (e ∙ ap₂ (cell n) (vat-row r) (vat-row g)) in
+        let r = component n (t .receiver) (receiver n t (components k h)) in
+        let g = component n (t .giver) (giver n t (components k h)) in
+        let q = cell-same n i j (r .row) (g .row) b (g .below) (e ∙ ap₂ (cell n) (component-row r) (component-row g)) in
         (r .is ∙ ap (λ m. pos (m + 1)) (sym (q .0)), g .is ∙ ap (λ m. pos (m + 1)) (sym (q .1)))
 
     stands : Stands n ts

@@ -1,6 +1,6 @@
 // The square that a list of records stands for.
 use crate::Transfer;
-use crate::internal::tests::both_vats;
+use crate::internal::tests::both_components;
 use crate::internal::tests::judged;
 use crate::internal::tests::record;
 use crate::internal::tests::share;
@@ -12,12 +12,12 @@ ghost use mathlib.Core.Bool.{true};
 ghost use Prim.Native.Nat.{_-_, _*_, _<_, _≤_};
 ghost use lib.IntN.{natAbs};
 ghost use lib.ListN.{length};
-ghost use Rattle.transfers.specs.Listing.{isVat, bothVats, placeOf};
+ghost use Rattle.transfers.specs.Listing.{isComponent, bothComponents, placeOf};
 ghost use Rattle.transfers.specs.Code.{transfersOf, Filled, Entered};
 
 // A component's row or column, from 0.
 fn index(n: usize, v: i64) -> usize
-    requires { ⌜ isVat n v ≡ true ⌝ }
+    requires { ⌜ isComponent n v ≡ true ⌝ }
     ensures { λ r. ⌜ (r ≡ natAbs v - 1) × (r < n) ⌝ }
 {
     let w = v as usize;
@@ -26,7 +26,7 @@ fn index(n: usize, v: i64) -> usize
 
 // The position of a record's interval.
 fn place(n: usize, t: Transfer) -> usize
-    requires { ⌜ (bothVats n t ≡ true) × (n ≤ 32) ⌝ }
+    requires { ⌜ (bothComponents n t ≡ true) × (n ≤ 32) ⌝ }
     ensures { λ r. ⌜ (r ≡ placeOf n t) × (r < n * n) ⌝ }
 {
     let i = index(n, t.receiver);
@@ -42,7 +42,7 @@ fn fill(n: usize, rs: &[[i64; 4]], square: &mut [i64]) -> bool
     let mut next = 0;
     for k in 0..rs.len() {
         let t = record(rs, k);
-        if !both_vats(n, t) {
+        if !both_components(n, t) {
             return false;
         }
         let p = place(n, t);

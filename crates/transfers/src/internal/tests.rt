@@ -9,7 +9,7 @@ use outcome::Outcome;
 ghost use mathlib.Core.Path.{_≡_};
 ghost use Prim.Native.Nat.{_-_, _<_, _≤_};
 ghost use lib.ListN.{length};
-ghost use Rattle.transfers.specs.Listing.{listing, nth, share, sizes, isVat, bothVats, known, follows, ordered, shares};
+ghost use Rattle.transfers.specs.Listing.{listing, nth, share, sizes, isComponent, bothComponents, known, follows, ordered, shares};
 ghost use Rattle.transfers.specs.Code.{transfersOf, judgement};
 
 // The record at k.
@@ -52,9 +52,9 @@ pub fn sizes(n: usize, rs: &[[i64; 4]], right: &[i64], bounds: &[i64]) -> Test
     lengths(&slices)
 }
 
-fn is_vat(n: usize, v: i64) -> bool
+fn is_component(n: usize, v: i64) -> bool
     requires { ⌜ n ≤ 32 ⌝ }
-    ensures { λ r. ⌜ r ≡ isVat n v ⌝ }
+    ensures { λ r. ⌜ r ≡ isComponent n v ⌝ }
 {
     if 1 <= v {
         return v <= n as i64;
@@ -63,12 +63,12 @@ fn is_vat(n: usize, v: i64) -> bool
 }
 
 // Whether receiver and giver are from 1 to n.
-pub fn both_vats(n: usize, t: Transfer) -> bool
+pub fn both_components(n: usize, t: Transfer) -> bool
     requires { ⌜ n ≤ 32 ⌝ }
-    ensures { λ r. ⌜ r ≡ bothVats n t ⌝ }
+    ensures { λ r. ⌜ r ≡ bothComponents n t ⌝ }
 {
-    if is_vat(n, t.receiver) {
-        return is_vat(n, t.giver);
+    if is_component(n, t.receiver) {
+        return is_component(n, t.giver);
     }
     false
 }
@@ -80,7 +80,7 @@ fn known(n: usize, rs: &[[i64; 4]]) -> Test
 {
     for k in 0..rs.len() {
         let t = record(rs, k);
-        if !both_vats(n, t) {
+        if !both_components(n, t) {
             return Test::Fail(Outcome::OutOfMatrix(k));
         }
     }

@@ -11,7 +11,7 @@ use lib.ListN.{length}
 use Rattle.interval.specs.Interval.{acceptable}
 use Rattle.inputs.specs.Place.{put}
 use Rattle.inputs.proofs.Tests.{square}
-use Rattle.transfers.specs.Listing.{nth, share, bothVats, placeOf, filled}
+use Rattle.transfers.specs.Listing.{nth, share, bothComponents, placeOf, filled}
 use Rattle.transfers.specs.Code.{transfersOf, allGood}
 use Rattle.transfers.proofs.Records.{length-transfers}
 use Rattle.transfers.proofs.Filled.{filled-end, filled-go, fill-stopped, fill-done}
@@ -32,15 +32,15 @@ all-left : (rs : List (List ℤ)) → length (transfersOf rs) ≡ length rs - 0
 all-left rs = length-transfers rs ∙ sym (sub-zero (length rs))
 
 -- ---- the record's tests, one after the other
-vats : (c : tie.After-both-vats Inv-loop μ-loop)
+components : (c : tie.After-both-components Inv-loop μ-loop)
     → let l = c .before .before .before in
-    bothVats (l .before .args .n) (nth (transfersOf (l .before .args .rs .now)) (l .loop .k)) ≡ c .both-vats .result
-vats c = sym (c .both-vats .ensures ∙ ap (bothVats (c .before .before .before .before .args .n)) (c .before .record .ensures))
+    bothComponents (l .before .args .n) (nth (transfersOf (l .before .args .rs .now)) (l .loop .k)) ≡ c .both-components .result
+components c = sym (c .both-components .ensures ∙ ap (bothComponents (c .before .before .before .before .args .n)) (c .before .record .ensures))
 
 known : (c : tie.After-place Inv-loop μ-loop)
     → let l = c .before .before .before .before .before in
-    bothVats (l .before .args .n) (nth (transfersOf (l .before .args .rs .now)) (l .loop .k)) ≡ true
-known c = vats (c .before .before) ∙ not-false _ (c .before .if1 .left)
+    bothComponents (l .before .args .n) (nth (transfersOf (l .before .args .rs .now)) (l .loop .k)) ≡ true
+known c = components (c .before .before) ∙ not-false _ (c .before .if1 .left)
 
 place-is : (c : tie.After-place Inv-loop μ-loop)
     → let l = c .before .before .before .before .before in
@@ -73,17 +73,17 @@ loop-holds c =
 record-requires : tie.Need-record-requires Inv-loop μ-loop
 record-requires c κs = (omega arith, omega arith)
 
-both-vats-requires : tie.Need-both-vats-requires Inv-loop μ-loop
-both-vats-requires c κs = omega arith
+both-components-requires : tie.Need-both-components-requires Inv-loop μ-loop
+both-components-requires c κs = omega arith
 
 same-length : tie.Need-same-length Inv-loop μ-loop
 same-length c = c .before .before .before .before .loop .inv .1
 
 returns : tie.Need-returns Inv-loop μ-loop
-returns c = let l = c .before .before .before in fill-stopped (l .before .loop .inv .2 ∙ good-unknown _ _ _ _ _ (l .loop-test .taken) (vats (c .before) ∙ not-true _ (c .if1 .taken)))
+returns c = let l = c .before .before .before in fill-stopped (l .before .loop .inv .2 ∙ good-unknown _ _ _ _ _ (l .loop-test .taken) (components (c .before) ∙ not-true _ (c .if1 .taken)))
 
 place-requires : tie.Need-place-requires Inv-loop μ-loop
-place-requires c κs = (sym (c .before .both-vats .ensures) ∙ not-false _ (c .if1 .left), omega arith)
+place-requires c κs = (sym (c .before .both-components .ensures) ∙ not-false _ (c .if1 .left), omega arith)
 
 same-length-2 : tie.Need-same-length-2 Inv-loop μ-loop
 same-length-2 c = c .before .before .before .before .before .before .loop .inv .1
@@ -158,7 +158,7 @@ fill-spec =
     μ-loop
     loop-holds
     record-requires
-    both-vats-requires
+    both-components-requires
     same-length
     returns
     place-requires

@@ -10,7 +10,7 @@ use Rattle.inputs.proofs.Tests.{square}
 use Rattle.inputs.proofs.Place.{cell-before}
 use Rattle.inputs.specs.Place.{cell}
 use Rattle.transfers.specs.Listing.{placeOf}
-use Rattle.transfers.proofs.Vat.{receiver, giver}
+use Rattle.transfers.proofs.Component.{receiver, giver}
 use Rattle.transfers.proofs.internal.square.place.Statement.{statement}
 use Rattle.transfers.proofs.internal.square.place.Tie as tie
 

@@ -4,7 +4,7 @@ use native.Mathlib.Omega.{arith}
 use native.Mathlib.Nat.{sub-zero}
 use borrow.Author.Tests.{not-true, not-false}
 use lib.ListN.{length}
-use Rattle.transfers.specs.Listing.{nth, bothVats, known}
+use Rattle.transfers.specs.Listing.{nth, bothComponents, known}
 use Rattle.transfers.specs.Code.{transfersOf}
 use Rattle.transfers.proofs.Tried.{tried-end, tried-go, tried-out}
 use Rattle.transfers.proofs.internal.tests.known.Statement.{statement}
@@ -17,10 +17,10 @@ abbrev μ-loop : tie.MeasureT-loop
 μ-loop n rs k₀ k-end k = length rs - k
 
 -- what the test of a record says of it
-told : (c : tie.After-both-vats Inv-loop μ-loop) → let l = c .before .before .before in let a = l .before .args in bothVats (a .n) (nth (transfersOf (a .rs .now)) (l .loop .k)) ≡ c .both-vats .result
+told : (c : tie.After-both-components Inv-loop μ-loop) → let l = c .before .before .before in let a = l .before .args in bothComponents (a .n) (nth (transfersOf (a .rs .now)) (l .loop .k)) ≡ c .both-components .result
 told c =
     let a = c .before .before .before .before .args in
-    sym (c .both-vats .ensures ∙ ap (bothVats (a .n)) (c .before .record .ensures))
+    sym (c .both-components .ensures ∙ ap (bothComponents (a .n)) (c .before .record .ensures))
 
 loop-holds : tie.Need-loop-holds Inv-loop μ-loop
 loop-holds c = (omega arith, ap (λ (d : ℕ). known (c .args .n) (transfersOf (c .args .rs .now)) d 0) (sym (sub-zero (length (c .args .rs .now)))))
@@ -28,8 +28,8 @@ loop-holds c = (omega arith, ap (λ (d : ℕ). known (c .args .n) (transfersOf (
 record-requires : tie.Need-record-requires Inv-loop μ-loop
 record-requires c κs = (omega arith, omega arith)
 
-both-vats-requires : tie.Need-both-vats-requires Inv-loop μ-loop
-both-vats-requires c κs = c .before .before .before .pre .0
+both-components-requires : tie.Need-both-components-requires Inv-loop μ-loop
+both-components-requires c κs = c .before .before .before .pre .0
 
 returns : tie.Need-returns Inv-loop μ-loop
 returns c =
@@ -60,7 +60,7 @@ known-spec =
     μ-loop
     loop-holds
     record-requires
-    both-vats-requires
+    both-components-requires
     returns
     add-k
     loop-less
