@@ -6,9 +6,8 @@ use transfers::internal::calls::sweep_records;
 use transfers::internal::calls::symmetric_records;
 ghost use mathlib.Core.Path.{_≡_};
 ghost use Rattle.sweep.specs.Calls.{sweepCall, symmetricCall};
-ghost use Rattle.transfers.specs.Listing.{listing};
+ghost use Rattle.transfers.specs.Listing.{listing, transfersOf};
 ghost use Rattle.transfers.specs.Call.{overList, callList};
-ghost use Rattle.transfers.specs.Code.{transfersOf};
 ghost use Rattle.capi.specs.Flat.{callOf};
 
 // Elimination from a list of transfers and b. A record is receiver, giver, lower and upper share: four numbers, as C has the struct in memory.

@@ -8,8 +8,8 @@ use lib.IntN.{ℤ, pos}
 use lib.ListN.{length, getD, set, take, drop, replicate, length-replicate}
 use lib.Seq.{take-suc, drop-cons, append-snoc, set-at, length-take-le, take-at, take-all}
 use Rattle.transfers.specs.declared.Transfer.{Transfer}
-use Rattle.transfers.specs.Listing.{nth}
-use Rattle.transfers.specs.Code.{transferOf, transfersOf, numbersOf, recordsOf, room, gathered}
+use Rattle.transfers.specs.Listing.{nth, transferOf, transfersOf}
+use Rattle.transfers.specs.Code.{numbersOf, recordsOf, room, gathered}
 
 -- what `nth` finds past the end
 abbrev pub none : Transfer

@@ -9,8 +9,8 @@ use Rattle.inputs.specs.declared.Test.the-variants.{Pass, Fail}
 use Rattle.inputs.specs.Tests.{both}
 use Rattle.inputs.proofs.Tests.{both-pass}
 use Rattle.transfers.specs.declared.Transfer.{Transfer}
-use Rattle.transfers.specs.Listing.{known, ordered, entries, shares}
-use Rattle.transfers.specs.Code.{transfersOf, judgement}
+use Rattle.transfers.specs.Listing.{known, ordered, entries, shares, transfersOf}
+use Rattle.transfers.specs.Code.{judgement}
 use Rattle.transfers.proofs.Records.{length-transfers}
 
 module _ (n : ℕ) (rs : List (List ℤ)) where

@@ -4,8 +4,7 @@ use mathlib.Core.List.{List, [], _∷_}
 use Prim.Native.Nat.{ℕ, zero, suc}
 use lib.IntN.{ℤ}
 use lib.ListN.{length, getD}
-use Rattle.transfers.specs.Listing.{nth}
-use Rattle.transfers.specs.Code.{transferOf, transfersOf}
+use Rattle.transfers.specs.Listing.{nth, transferOf, transfersOf}
 
 pub length-transfers : (rs : List (List ℤ)) → length (transfersOf rs) ≡ length rs
 unfolding transfersOf

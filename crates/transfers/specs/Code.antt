@@ -5,7 +5,7 @@ use mathlib.Core.List.{List, [], _∷_, _++_}
 use Prim.Native.Nat.{ℕ, zero, suc, _+_, min}
 use lib.Dec.{leb}
 use lib.IntN.{ℤ, pos}
-use lib.ListN.{length, getD, take, drop, replicate}
+use lib.ListN.{length, take, drop, replicate}
 use Rattle.outcome.specs.declared.Outcome.{Outcome}
 use Rattle.outcome.specs.declared.Outcome.the-variants as outcome
 use Rattle.outcome.specs.Run.{Returned, returned, ended}
@@ -22,13 +22,6 @@ use Rattle.transfers.specs.Listing.{Listing, listing, nth, share, bothCo
 use Rattle.transfers.specs.Call.{sweepTests, overList, callList}
 
 -- ---- a record as four numbers
-unfoldable pub transferOf : List ℤ → Transfer
-transferOf r = record { receiver = getD r 0 (pos 0); giver = getD r 1 (pos 0); lo = getD r 2 (pos 0); hi = getD r 3 (pos 0) }
-
-unfoldable pub transfersOf : List (List ℤ) → List Transfer
-transfersOf [] = []
-transfersOf (r ∷ rs) = transferOf r ∷ transfersOf rs
-
 abbrev pub numbersOf : Transfer → List ℤ
 numbersOf t = t .receiver ∷ t .giver ∷ t .lo ∷ t .hi ∷ []
 

@@ -92,3 +92,11 @@ square n ts = filled n ts (length ts) 0 (replicate (2 * (n * n)) (pos 0))
 
 abbrev pub squared : Listing → System
 squared s = system (s .size) (square (s .size) (s .transfers)) (s .right)
+
+-- ---- a record as four numbers, as callers in C lend it: receiving vat, giving vat, lower and upper share
+unfoldable pub transferOf : List ℤ → Transfer
+transferOf r = record { receiver = getD r 0 (pos 0); giver = getD r 1 (pos 0); lo = getD r 2 (pos 0); hi = getD r 3 (pos 0) }
+
+unfoldable pub transfersOf : List (List ℤ) → List Transfer
+transfersOf [] = []
+transfersOf (r ∷ rs) = transferOf r ∷ transfersOf rs

@@ -17,9 +17,9 @@ ghost use Rattle.outcome.specs.Run.{returned};
 ghost use Rattle.inputs.specs.declared.Test.the-variants.{Pass};
 ghost use Rattle.sweep.specs.Call.{allowance};
 ghost use Rattle.sweep.specs.Calls.{sweepCall, symmetricCall};
-ghost use Rattle.transfers.specs.Listing.{listing, sizes};
+ghost use Rattle.transfers.specs.Listing.{listing, sizes, transfersOf};
 ghost use Rattle.transfers.specs.Call.{overList, callList};
-ghost use Rattle.transfers.specs.Code.{transfersOf, listOver};
+ghost use Rattle.transfers.specs.Code.{listOver};
 
 // Elimination after tests 1 and 2, in a working copy of noughts.
 fn eliminate_in(n: usize, rs: &[[i64; 4]], t: &mut [i64], b: &[i64], bounds: &mut [i64]) -> Outcome

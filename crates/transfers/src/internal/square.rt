@@ -12,8 +12,8 @@ ghost use mathlib.Core.Bool.{true};
 ghost use Prim.Native.Nat.{_-_, _*_, _<_, _≤_};
 ghost use lib.IntN.{natAbs};
 ghost use lib.ListN.{length};
-ghost use Rattle.transfers.specs.Listing.{isComponent, bothComponents, placeOf};
-ghost use Rattle.transfers.specs.Code.{transfersOf, Filled, Entered};
+ghost use Rattle.transfers.specs.Listing.{isComponent, bothComponents, placeOf, transfersOf};
+ghost use Rattle.transfers.specs.Code.{Filled, Entered};
 
 // A component's row or column, from 0.
 fn index(n: usize, v: i64) -> usize

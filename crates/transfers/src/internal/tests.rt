@@ -9,8 +9,8 @@ use outcome::Outcome;
 ghost use mathlib.Core.Path.{_≡_};
 ghost use Prim.Native.Nat.{_-_, _<_, _≤_};
 ghost use lib.ListN.{length};
-ghost use Rattle.transfers.specs.Listing.{listing, nth, share, sizes, isComponent, bothComponents, known, follows, ordered, shares};
-ghost use Rattle.transfers.specs.Code.{transfersOf, judgement};
+ghost use Rattle.transfers.specs.Listing.{listing, nth, share, sizes, isComponent, bothComponents, known, follows, ordered, shares, transfersOf};
+ghost use Rattle.transfers.specs.Code.{judgement};
 
 // The record at k.
 pub fn record(rs: &[[i64; 4]], k: usize) -> Transfer

@@ -12,8 +12,8 @@ use Rattle.inputs.specs.System.{tests}
 use Rattle.inputs.proofs.System.{ready}
 use Rattle.elimination.specs.Call.{copied}
 use Rattle.elimination.proofs.Call.{copied-working}
-use Rattle.transfers.specs.Listing.{Listing, listing, squared}
-use Rattle.transfers.specs.Code.{transfersOf, judgement}
+use Rattle.transfers.specs.Listing.{Listing, listing, squared, transfersOf}
+use Rattle.transfers.specs.Code.{judgement}
 use Rattle.transfers.proofs.Records.{length-transfers}
 use Rattle.transfers.proofs.Sizes.{Fitting, fitting}
 use Rattle.transfers.proofs.Call.{copied-is, list-records, list-right, list-ready, list-runs}

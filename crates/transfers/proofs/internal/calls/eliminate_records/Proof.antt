@@ -3,8 +3,7 @@ use mathlib.Core.Path.{_≡_, refl, sym, _∙_}
 use denote.Ref.{now}
 use lib.ListN.{length}
 use Rattle.inputs.specs.declared.Test.the-variants.{Pass}
-use Rattle.transfers.specs.Listing.{Listing, listing, sizes}
-use Rattle.transfers.specs.Code.{transfersOf}
+use Rattle.transfers.specs.Listing.{Listing, listing, sizes, transfersOf}
 use Rattle.transfers.proofs.Call.{list-sizes}
 use Rattle.transfers.proofs.internal.calls.eliminate_records.Statement.{statement}
 use Rattle.transfers.proofs.internal.calls.eliminate_records.Tie as tie

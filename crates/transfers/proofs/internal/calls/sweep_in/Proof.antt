@@ -7,8 +7,8 @@ use lib.IntN.{pos}
 use lib.ListN.{length, length-replicate}
 use Rattle.inputs.specs.declared.Test.the-variants.{Pass}
 use Rattle.inputs.specs.Tests.{proper}
-use Rattle.transfers.specs.Listing.{Listing, listing, square}
-use Rattle.transfers.specs.Code.{transfersOf, judgement}
+use Rattle.transfers.specs.Listing.{Listing, listing, square, transfersOf}
+use Rattle.transfers.specs.Code.{judgement}
 use Rattle.transfers.proofs.Records.{length-transfers}
 use Rattle.transfers.proofs.Sizes.{Fitting, fitting}
 use Rattle.transfers.proofs.Call.{square-is, refuses, over-records, over-right, over-box, over-ready, over-runs}

@@ -8,8 +8,7 @@ use lib.Seq.{length-take-le}
 use Rattle.inputs.specs.declared.Test.the-variants.{Pass}
 use Rattle.inputs.proofs.Tests.{square}
 use Rattle.sweep.specs.Call.{allowance}
-use Rattle.transfers.specs.Listing.{Listing, listing, sizes}
-use Rattle.transfers.specs.Code.{transfersOf}
+use Rattle.transfers.specs.Listing.{Listing, listing, sizes, transfersOf}
 use Rattle.transfers.proofs.Sizes.{fitting}
 use Rattle.transfers.proofs.Square.{take-noughts}
 use Rattle.transfers.proofs.Call.{over-sizes, over-allowed, refuses}

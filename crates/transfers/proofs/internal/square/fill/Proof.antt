@@ -11,8 +11,8 @@ use lib.ListN.{length}
 use Rattle.interval.specs.Interval.{acceptable}
 use Rattle.inputs.specs.Place.{put}
 use Rattle.inputs.proofs.Tests.{square}
-use Rattle.transfers.specs.Listing.{nth, share, bothComponents, placeOf, filled}
-use Rattle.transfers.specs.Code.{transfersOf, allGood}
+use Rattle.transfers.specs.Listing.{nth, share, bothComponents, placeOf, filled, transfersOf}
+use Rattle.transfers.specs.Code.{allGood}
 use Rattle.transfers.proofs.Records.{length-transfers}
 use Rattle.transfers.proofs.Filled.{filled-end, filled-go, fill-stopped, fill-done}
 use Rattle.transfers.proofs.Good.{good-end, good-unknown, good-before, good-improper, good-go}

@@ -2,8 +2,7 @@ use borrow.Author.Needs.{needs}
 use mathlib.Core.Path.{_≡_, sym, _∙_}
 use lib.ListN.{length}
 use Rattle.inputs.specs.declared.Test.the-variants.{Pass}
-use Rattle.transfers.specs.Listing.{known}
-use Rattle.transfers.specs.Code.{transfersOf}
+use Rattle.transfers.specs.Listing.{known, transfersOf}
 use Rattle.transfers.proofs.Judged.{judged-known, judged-ordered, judged-shares}
 use Rattle.transfers.proofs.internal.tests.judged.Statement.{statement}
 use Rattle.transfers.proofs.internal.tests.judged.Tie as tie

@@ -4,8 +4,7 @@ use native.Mathlib.Omega.{arith}
 use native.Mathlib.Nat.{sub-zero}
 use borrow.Author.Tests.{not-true, not-false}
 use lib.ListN.{length}
-use Rattle.transfers.specs.Listing.{nth, bothComponents, known}
-use Rattle.transfers.specs.Code.{transfersOf}
+use Rattle.transfers.specs.Listing.{nth, bothComponents, known, transfersOf}
 use Rattle.transfers.proofs.Tried.{tried-end, tried-go, tried-out}
 use Rattle.transfers.proofs.internal.tests.known.Statement.{statement}
 use Rattle.transfers.proofs.internal.tests.known.Tie as tie

@@ -4,8 +4,7 @@ use Prim.Native.Nat.{_-_, _≤_}
 use native.Mathlib.Omega.{arith}
 use borrow.Author.Tests.{not-true, not-false}
 use lib.ListN.{length}
-use Rattle.transfers.specs.Listing.{nth, follows, ordered}
-use Rattle.transfers.specs.Code.{transfersOf}
+use Rattle.transfers.specs.Listing.{nth, follows, ordered, transfersOf}
 use Rattle.transfers.proofs.Tried.{tried-end, tried-go, tried-out}
 use Rattle.transfers.proofs.internal.tests.ordered.Statement.{statement}
 use Rattle.transfers.proofs.internal.tests.ordered.Tie as tie

@@ -1,5 +1,5 @@
 use borrow.Author.Needs.{needs}
-use Rattle.transfers.specs.Code.{transferOf}
+use Rattle.transfers.specs.Listing.{transferOf}
 use Rattle.transfers.proofs.Records.{nth-transfers}
 use Rattle.transfers.proofs.internal.tests.record.Statement.{statement}
 use Rattle.transfers.proofs.internal.tests.record.Tie as tie

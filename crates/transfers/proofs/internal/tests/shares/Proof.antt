@@ -6,8 +6,7 @@ use native.Mathlib.Nat.{sub-zero}
 use borrow.Author.Tests.{not-true, not-false}
 use lib.ListN.{length}
 use Rattle.interval.specs.Interval.{acceptable}
-use Rattle.transfers.specs.Listing.{nth, share, shares}
-use Rattle.transfers.specs.Code.{transfersOf}
+use Rattle.transfers.specs.Listing.{nth, share, shares, transfersOf}
 use Rattle.transfers.proofs.Tried.{tried-end, tried-go, tried-out}
 use Rattle.transfers.proofs.internal.tests.shares.Statement.{statement}
 use Rattle.transfers.proofs.internal.tests.shares.Tie as tie
