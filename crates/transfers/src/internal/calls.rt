@@ -54,6 +54,7 @@ pub fn eliminate_records(n: usize, rs: &[[i64; 4]], b: &[i64], bounds: &mut [i64
     eliminate_in(n, rs, &mut t, b, bounds)
 }
 
+// A refusal before the sweeps: no whole one was done.
 fn refused(o: Outcome) -> Swept
     ensures { λ s. ⌜ (s .outcome ≡ o) × (s .count ≡ 0) ⌝ }
 {

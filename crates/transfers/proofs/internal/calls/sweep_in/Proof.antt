@@ -39,7 +39,7 @@ box : (c : tie.After-intervals2)
     c .intervals2 .result ≡ proper (now (b .args .bounds)) (s .size) 0 (length (s .transfers) + s .size)
 box c =
     let b = c .before .before .before .before .before .before .before .before .before .before in
-    c .intervals2 .ensures ∙ ap (λ m. proper (now (b .args .bounds)) (b .args .n) 0 (m + b .args .n)) (sym (length-transfers (now (b .args .rs))))
+    c .intervals2 .ensures ∙ ap (proper (now (b .args .bounds)) (b .args .n) 0) (omega (arith, length-transfers (now (b .args .rs))))
 
 -- both have passed
 righted : (c : tie.After-enum-told2) → let s = lent (c .before .before .before .before .before .before .before .before) in proper (s .right) (s .size) 0 (length (s .transfers)) ≡ Pass

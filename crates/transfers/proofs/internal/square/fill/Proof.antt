@@ -142,7 +142,7 @@ loop-again c =
     let m = l .loop .square in
     let e = w .write .ensures ∙ ap₂ (put m) (place-is p) (share-is h) in
     let g = l .loop .inv .2 ∙ good-go _ _ _ _ _ (t .loop-test .taken) (known p) (after-it h) (proper a ∙ not-false _ (w .before .before .if3 .left)) in
-    (omega arith, w .write .kept .0 ∙ l .loop .inv .1, g ∙ ap (λ q. allGood n ts left (l .loop .k + 1) (q + 1)) (sym (place-is p)), l .loop .inv .3 ∙ filled-go _ _ _ _ _ (t .loop-test .taken) ∙ ap (filled n ts left (l .loop .k + 1)) (sym e))
+    (omega arith, w .write .kept .0 ∙ l .loop .inv .1, g ∙ ap (allGood n ts left (l .loop .k + 1)) (omega (arith, place-is p)), l .loop .inv .3 ∙ filled-go _ _ _ _ _ (t .loop-test .taken) ∙ ap (filled n ts left (l .loop .k + 1)) (sym e))
 
 same-length-4 : tie.Need-same-length-4 Inv-loop μ-loop
 same-length-4 c = c .before .loop .inv .1
