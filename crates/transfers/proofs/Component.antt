@@ -1,11 +1,12 @@
 -- Vat numbers as naturals.
-use mathlib.Core.Path.{_≡_, ap, _∙_}
-use mathlib.Core.Bool.{true}
+use mathlib.Core.Path.{_≡_, ap, subst, _∙_}
+use mathlib.Core.Bool.{true, false}
 use Prim.Native.Nat.{ℕ, _+_, _-_, _≤_, _<_}
 use native.Mathlib.Omega.{arith}
-use borrow.Author.Tests.{leb-true}
-use lib.Dec.{leb}
+use borrow.Author.Tests.{leb-true, leb-false, le-leb}
+use lib.Dec.{leb, T}
 use lib.IntN.{ℤ, pos, negsuc, natAbs}
+use lib.Signed.{leZ}
 use Rattle.interval.proofs.Range.{and-both}
 use Rattle.transfers.specs.declared.Transfer.{Transfer}
 use Rattle.transfers.specs.Listing.{isComponent, bothComponents}
@@ -38,3 +39,9 @@ receiver n t e = and-both (isComponent n (t .receiver)) (isComponent n (t .giver
 pub giver : (n : ℕ) (t : Transfer) → bothComponents n t ≡ true → isComponent n (t .giver) ≡ true
 unfolding bothComponents
 giver n t e = and-both (isComponent n (t .receiver)) (isComponent n (t .giver)) e .1
+
+-- a number past the first ones, so many, and at most n
+pub later : (n first : ℕ) (v : ℤ) → leZ v (pos first) ≡ false → leZ v (pos n) ≡ true → (isComponent n v ≡ true) × (first ≤ natAbs v - 1)
+unfolding isComponent
+later n first (pos m) a b = let l = leb-false m first a in (rw (le-leb 1 m (omega (arith, l)), b), omega (arith, l))
+later n first (negsuc m) a b = absurd (subst T a tt)

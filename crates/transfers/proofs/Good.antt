@@ -56,13 +56,13 @@ module _ (n : ℕ) (ts : List Transfer) where
   abbrev P : ℕ → ℕ
   P k = placeOf n (nth ts k)
 
-  record Good (d k next : ℕ) : Type 0 where
+  pub record Good (d k next : ℕ) : Type 0 where
     components : (j : ℕ) → j < d → bothComponents n (nth ts (k + j)) ≡ true
     proper : (j : ℕ) → j < d → acceptable (share (nth ts (k + j))) ≡ true
-    first : 0 < d → next ≤ P k
+    pub first : 0 < d → next ≤ P k
     rises : (j : ℕ) → j + 1 < d → P (k + j) < P (k + j + 1)
 
-  each : (d k next : ℕ) → allGood n ts d k next ≡ true → Good d k next
+  pub each : (d k next : ℕ) → allGood n ts d k next ≡ true → Good d k next
   unfolding allGood
   each zero k next e = record { components = λ j h. absurd (omega arith); proper = λ j h. absurd (omega arith); first = λ h. absurd (omega arith); rises = λ j h. absurd (omega arith) }
   each (suc d) k next e =

@@ -8,5 +8,9 @@ pub mod Good
 pub mod Entered
 pub mod Sizes
 pub mod Square
+pub mod Places
+pub mod RowEnd
+pub mod Rows
+pub mod Passes
 pub mod Call
 pub mod Gathered

@@ -1,3 +1,4 @@
 pub mod Listing
 pub mod Call
 pub mod Code
+pub mod Rows

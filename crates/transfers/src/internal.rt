@@ -1,5 +1,7 @@
 pub mod calls;
 pub mod gather;
 pub mod gathered;
+pub mod listed;
+pub mod passes;
 pub mod square;
 pub mod tests;

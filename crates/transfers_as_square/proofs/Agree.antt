@@ -24,8 +24,8 @@ use Rattle.transfers.specs.Listing.{Listing, nth, share, sizes, entries, shares
 use Rattle.transfers.specs.Call.{tests, sweepTests, runList, sweepList, callList}
 use Rattle.transfers.proofs.Tried.{tried-all}
 use Rattle.transfers.proofs.Square.{length-square, square-sound}
+use Rattle.transfers.proofs.Places.{own-place, place-within}
 use Rattle.transfers_as_square.specs.Claim.{Agree, NumbersAgree}
-use Rattle.transfers_as_square.proofs.Stands.{own-place, place-within}
 use Rattle.transfers_as_square.proofs.Alike.{Alike, alike-self, alike-both, alike-all, three-tried, three-proper, alike-threes, agrees}
 
 -- ---- the records' intervals are those of the square that are not nought

@@ -29,7 +29,7 @@ pub enum Tested {
 }
 
 // Whether a share is an interval, not below 0 and at most 2^24 units, as the shares of a vat are: 32 products of such with components then fit 64 bits.
-fn is_modest(a: Interval) -> bool
+pub fn is_modest(a: Interval) -> bool
     ensures { λ r. ⌜ (r ≡ true → Modest a) ⌝ }
 {
     if a.lo < 0 {
@@ -42,7 +42,7 @@ fn is_modest(a: Interval) -> bool
 }
 
 // sum and the product of a modest share with a component that is not below 0.
-fn next_above(sum: Interval, a: Interval, b: Interval) -> Interval
+pub fn next_above(sum: Interval, a: Interval, b: Interval) -> Interval
     requires { ⌜ Modest a × (acceptable b ≡ true) × (pos 0 ≤ℤ b .lo) ⌝ }
     requires { ⌜ SumModest 31 sum ⌝ }
     ensures { λ r. ⌜ NextAbove sum a b r ⌝ }

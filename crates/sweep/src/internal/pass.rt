@@ -32,7 +32,7 @@ fn component(n: usize, i: usize, m: &[i64], r: &[i64], x: &[i64]) -> Interval
 }
 
 // Whether an end was changed before, or an end of the new interval differs from the old one's.
-fn moved(earlier: bool, old: Interval, new: Interval) -> bool
+pub fn moved(earlier: bool, old: Interval, new: Interval) -> bool
     ensures { λ r. ⌜ r ≡ (earlier || differs old new) ⌝ }
 {
     if earlier {
@@ -45,7 +45,7 @@ fn moved(earlier: bool, old: Interval, new: Interval) -> bool
 }
 
 // The component of turn k: upward in the first n turns, downward in the next n.
-fn turn(n: usize, k: usize) -> usize
+pub fn turn(n: usize, k: usize) -> usize
     requires { ⌜ (n ≤ 32) × (k < 2 * n) ⌝ }
     ensures { λ i. ⌜ i ≡ turn n k ⌝ }
 {

@@ -1,7 +1,10 @@
 // The calls over records as four numbers each.
+use crate::internal::listed::find_rows;
+use crate::internal::passes;
 use crate::internal::square::enter;
 use crate::internal::tests::sizes;
 use elimination::internal::solve::solve_formed;
+use half_rows::internal::tested::all_above;
 use inputs::Test;
 use inputs::internal::copy::fill;
 use inputs::internal::intervals;
@@ -10,9 +13,10 @@ use sweep::Swept;
 use sweep::internal::calls::run;
 use sweep::internal::tests::budget;
 ghost use mathlib.Core.Path.{_≡_};
+ghost use mathlib.Core.Bool.{true};
 ghost use Prim.Native.Nat.{_*_, _≤_};
 ghost use lib.IntN.{pos};
-ghost use lib.ListN.{length, replicate};
+ghost use lib.ListN.{length, replicate, getD};
 ghost use Rattle.outcome.specs.Run.{returned};
 ghost use Rattle.inputs.specs.declared.Test.the-variants.{Pass};
 ghost use Rattle.sweep.specs.Call.{allowance};
@@ -20,6 +24,7 @@ ghost use Rattle.sweep.specs.Calls.{sweepCall, symmetricCall};
 ghost use Rattle.transfers.specs.Listing.{listing, sizes, transfersOf};
 ghost use Rattle.transfers.specs.Call.{overList, callList};
 ghost use Rattle.transfers.specs.Code.{listOver};
+ghost use Rattle.transfers.specs.Rows.{Plain};
 
 // Elimination after tests 1 and 2, in a working copy of noughts.
 fn eliminate_in(n: usize, rs: &[[i64; 4]], t: &mut [i64], b: &[i64], bounds: &mut [i64]) -> Outcome
@@ -96,6 +101,57 @@ fn sweep_in(
     run(n, halves, square, b, bounds, allowed)
 }
 
+// Whether all tests of intervals pass, no share is more than modest and no component below 0; then ends has where the rows of the list end.
+fn is_plain(n: usize, rs: &[[i64; 4]], b: &[i64], bounds: &[i64], ends: &mut [usize]) -> bool
+    requires { ⌜ sizes (listing n (transfersOf (now rs)) (now b)) (length (now bounds)) ≡ Pass ⌝ }
+    requires { ⌜ (length (now ends) ≡ 33) × (getD (now ends) 0 0 ≡ 0) ⌝ }
+    ensures { λ r. ⌜ (r ≡ true → Plain (listing n (transfersOf (now (rs .entry))) (now (b .entry))) (now (bounds .entry)) (now (ends .exit))) ⌝ }
+{
+    let r = intervals(b, n, rs.len());
+    if let Test::Fail(_) = r {
+        return false;
+    }
+    let x = intervals(bounds, n, rs.len() + n);
+    if let Test::Fail(_) = x {
+        return false;
+    }
+    if !all_above(bounds, n) {
+        return false;
+    }
+    find_rows(n, rs, ends)
+}
+
+// Sweeps after tests 1, 2 and 4: over the rows of a plain list, and over the square of any other.
+fn sweep_sized(
+    n: usize,
+    halves: usize,
+    rs: &[[i64; 4]],
+    b: &[i64],
+    bounds: &mut [i64],
+    allowed: usize,
+) -> Swept
+    requires { ⌜ (sizes (listing n (transfersOf (now rs)) (now b)) (length (now bounds)) ≡ Pass) × (allowance allowed ≡ Pass) × (halves ≤ 2) ⌝ }
+    ensures { λ s. ⌜
+        returned (s .outcome) (s .count) (now (bounds .exit)) ≡
+        listOver halves (listing n (transfersOf (now (rs .entry))) (now (b .entry))) allowed (now (bounds .entry))
+        ⌝ }
+{
+    let mut ends = [0usize; 33];
+    if is_plain(n, rs, b, bounds, &mut ends) {
+        return passes::run(n, halves, rs, &ends, b, bounds, allowed);
+    }
+    let mut square = [0i64; 2048];
+    sweep_in(
+        n,
+        halves,
+        rs,
+        &mut square[..2 * (n * n)],
+        b,
+        bounds,
+        allowed,
+    )
+}
+
 // Sweeps from records and b, with passes of one half or of both.
 fn swept_records(
     n: usize,
@@ -119,16 +175,7 @@ fn swept_records(
     if let Test::Fail(o) = k {
         return refused(o);
     }
-    let mut square = [0i64; 2048];
-    sweep_in(
-        n,
-        halves,
-        rs,
-        &mut square[..2 * (n * n)],
-        b,
-        bounds,
-        allowed,
-    )
+    sweep_sized(n, halves, rs, b, bounds, allowed)
 }
 
 // Sweeps from records and b.

@@ -16,7 +16,7 @@ ghost use Rattle.transfers.specs.Listing.{isComponent, bothComponents, p
 ghost use Rattle.transfers.specs.Code.{Filled, Entered};
 
 // A component's row or column, from 0.
-fn index(n: usize, v: i64) -> usize
+pub fn index(n: usize, v: i64) -> usize
     requires { ⌜ isComponent n v ≡ true ⌝ }
     ensures { λ r. ⌜ (r ≡ natAbs v - 1) × (r < n) ⌝ }
 {

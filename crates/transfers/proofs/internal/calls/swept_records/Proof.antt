@@ -22,10 +22,6 @@ lent c = listing (c .args .n) (transfersOf (now (c .args .rs))) (now (c .args .b
 sized : (c : tie.After-enum-told) → let s = c .before .before .before .before in sizes (lent s) (length (now (s .args .bounds))) ≡ Pass
 sized c = sym (c .before .before .sizes .ensures) ∙ c .enum-told .given .1
 
--- the square has room
-room : (c : tie.After-enum-told) → let n = c .before .before .before .before .args .n in 2 * (n * n) ≤ 2048
-room c = omega (arith, square _ (fitting _ _ (sized c) .few))
-
 -- test 4 has passed
 allowed : (c : tie.After-enum-told2) → allowance (c .before .before .before .before .before .before .before .args .allowed) ≡ Pass
 allowed c = sym (c .before .before .budget .ensures) ∙ c .enum-told2 .given .1
@@ -68,23 +64,11 @@ returns-2 c =
 enum-told-2 : tie.Need-enum-told-2
 enum-told-2 c = search needs
 
-mul-square : tie.Need-mul-square
-mul-square c = record { fits = omega (arith, room (c .before .before .before)) }
-
-mul-square-2 : tie.Need-mul-square-2
-mul-square-2 c = record { fits = omega (arith, room (c .before .before .before)) }
-
-array-borrow-prefix-square : tie.Need-array-borrow-prefix-square
-array-borrow-prefix-square c = room (c .before .before .before)
-
-slice-aggregate-sweep-in : tie.Need-slice-aggregate-sweep-in
-slice-aggregate-sweep-in c = sym (length-take-le _ _ (room (c .before .before .before .before)))
-
-sweep-in-requires : tie.Need-sweep-in-requires
-sweep-in-requires c κs =
-    let k = c .before .before in
+sweep-sized-requires : tie.Need-sweep-sized-requires
+sweep-sized-requires c κs =
+    let k = c .before in
     let e = k .before .before .before in
-    ((sized e, take-noughts _ 2048 (room e)), (allowed k, e .before .before .before .before .pre))
+    (sized e, allowed k, e .before .before .before .before .pre)
 
 same-length-3 : tie.Need-same-length-3
 same-length-3 c = search needs
@@ -108,10 +92,6 @@ swept-records-spec =
     same-length-2
     returns-2
     enum-told-2
-    mul-square
-    mul-square-2
-    array-borrow-prefix-square
-    slice-aggregate-sweep-in
-    sweep-in-requires
+    sweep-sized-requires
     same-length-3
     returns-3)

@@ -1,0 +1,104 @@
+use borrow.Author.Needs.{needs}
+use borrow.Author.Tests.{not-false}
+use mathlib.Core.Path.{_≡_, sym, ap, subst, _∙_}
+use Prim.Native.Nat.{_+_, _*_}
+use native.Mathlib.Omega.{arith}
+use denote.Ref.{now}
+use lib.Dec.{T}
+use lib.ListN.{length}
+use Rattle.inputs.specs.declared.Test.the-variants.{Pass}
+use Rattle.inputs.specs.Tests.{proper}
+use Rattle.inputs.proofs.Place.{proper-sound}
+use Rattle.transfers.specs.Listing.{Listing, listing, transfersOf}
+use Rattle.transfers.proofs.Records.{length-transfers}
+use Rattle.transfers.proofs.Sizes.{Fitting, fitting}
+use Rattle.transfers.proofs.internal.calls.is_plain.Statement.{statement}
+use Rattle.transfers.proofs.internal.calls.is_plain.Tie as tie
+
+abbrev lent : tie.Start → Listing
+lent c = listing (c .args .n) (transfersOf (now (c .args .rs))) (now (c .args .b))
+
+fits : (c : tie.Start) → Fitting (lent c) (length (now (c .args .bounds)))
+fits c = fitting _ _ (c .pre .0)
+
+intervals-requires : tie.Need-intervals-requires
+intervals-requires c κs =
+    let f = fits (c .before) in
+    (omega (arith, f .right), omega (arith, f .few, rw (length-transfers _) at (f .short)))
+
+enum-told : tie.Need-enum-told
+enum-told c = search needs
+
+returns : tie.Need-returns
+returns c = λ e. absurd (subst T (sym e) tt)
+
+enum-told-2 : tie.Need-enum-told-2
+enum-told-2 c = search needs
+
+add-intervals : tie.Need-add-intervals
+add-intervals c =
+    let f = fits (c .before .before .before .before) in
+    record { fits = omega (arith, f .few, rw (length-transfers _) at (f .short)) }
+
+intervals-requires-2 : tie.Need-intervals-requires-2
+intervals-requires-2 c κs =
+    let f = fits (c .before .before .before .before) in
+    (omega (arith, f .box), omega (arith, f .few, rw (length-transfers _) at (f .short)))
+
+enum-told-3 : tie.Need-enum-told-3
+enum-told-3 c = search needs
+
+returns-2 : tie.Need-returns-2
+returns-2 c = λ e. absurd (subst T (sym e) tt)
+
+enum-told-4 : tie.Need-enum-told-4
+enum-told-4 c = search needs
+
+-- the right side and the start box have passed, as the list counts their places
+right : (c : tie.After-enum-told2) → let s = lent (c .before .before .before .before) in proper (s .right) (s .size) 0 (length (s .transfers)) ≡ Pass
+right c = sym (c .before .before .intervals .ensures ∙ ap (proper _ _ 0) (sym (length-transfers _))) ∙ c .enum-told2 .given .1
+
+box : (c : tie.After-enum-told4) → let b = c .before .before .before .before .before .before .before in let s = lent b in proper (now (b .args .bounds)) (s .size) 0 (length (s .transfers) + s .size) ≡ Pass
+box c =
+    let b = c .before .before .before .before .before .before .before in
+    sym (c .before .before .intervals2 .ensures ∙ ap (proper (now (b .args .bounds)) (b .args .n) 0) (omega (arith, length-transfers (now (b .args .rs))))) ∙ c .enum-told4 .given .1
+
+all-above-requires : tie.Need-all-above-requires
+all-above-requires c κs =
+    let f = fits (c .before .before .before .before .before .before .before) in
+    (f .box, f .few, proper-sound _ _ _ (f .box) (box c))
+
+returns-3 : tie.Need-returns-3
+returns-3 c = λ e. absurd (subst T (sym e) tt)
+
+find-rows-requires : tie.Need-find-rows-requires
+find-rows-requires c κs =
+    let s = c .before .before .before .before .before .before .before .before .before .before in
+    let f = fits s in
+    (f .few, rw (length-transfers _) at (f .short), s .pre .1 .0, s .pre .1 .1)
+
+same-length : tie.Need-same-length
+same-length c = search needs
+
+returns-4 : tie.Need-returns-4
+returns-4 c =
+    λ e. record { right = right (c .before .before .before .before .before .before .before .before .before); box = box (c .before .before .before .before .before .before); above = c .before .before .before .before .before .all-above .ensures (not-false _ (c .before .before .before .before .if1 .left)); rows = c .before .before .find-rows .ensures e }
+
+pub is-plain-spec : {M : Type 1} → statement M
+is-plain-spec =
+    tie.close
+    (tie.spec
+    intervals-requires
+    enum-told
+    returns
+    enum-told-2
+    add-intervals
+    intervals-requires-2
+    enum-told-3
+    returns-2
+    enum-told-4
+    all-above-requires
+    returns-3
+    find-rows-requires
+    same-length
+    returns-4)
