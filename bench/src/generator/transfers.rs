@@ -25,6 +25,7 @@ const FAULTS: usize = 5;
 pub fn transfers_up_to(most: usize, seed: u64) -> impl Iterator<Item = Transfers> {
     let whole = (1..=MOST_EQUATIONS).flat_map(|n| [good(n, n * n), good(n, 0)]);
     let edges = whole.chain(long()).chain(faulty());
+    let edges = edges.flat_map(|lent| [raised(lent.clone()), lent]);
     let edges = edges.flat_map(|lent| {
         CALLS.map(|call| Transfers {
             call,
@@ -53,6 +54,16 @@ fn good(n: usize, count: usize) -> Case {
         bounds: [0, 90_000_000].repeat(n),
         ..Case::new(&identity(n))
     }
+}
+
+/// With no share below 0: such a list is swept in another way.
+fn raised(mut lent: Case) -> Case {
+    for transfer in lent.matrix.chunks_exact_mut(TRANSFER) {
+        if transfer[2] == -1 {
+            transfer[2] = 0;
+        }
+    }
+    lent
 }
 
 /// As many transfers as there may be, and one more.

@@ -115,7 +115,7 @@ module _ (n : ℕ) (ts : List Transfer) where
       ap (filled n ts (length ts) 0) (sym (take-append-drop k z) ∙ ap (λ l. l ++ drop k z) (take-noughts k m h))
       ∙ filled-before (length ts) 0 (replicate k (pos 0)) (drop k z) (all-fit p) (length-replicate k (pos 0))
 
-sound-proper : (t : List ℤ) (d from : ℕ) → Sound t → proper t d 0 from ≡ Pass
+pub sound-proper : (t : List ℤ) (d from : ℕ) → Sound t → proper t d 0 from ≡ Pass
 sound-proper t d from s = proper-all t d 0 from (λ k h. s .each (0 + k))
 
 -- ---- the tests of the square

@@ -8,8 +8,7 @@ use lib.ListN.{length, getD}
 use Rattle.interval.specs.declared.Interval.{Interval}
 use Rattle.interval.specs.Interval as interval
 use Rattle.inputs.specs.Place.{at}
-use Rattle.inputs.specs.declared.Test.the-variants.{Pass}
-use Rattle.inputs.specs.Tests.{proper}
+use Rattle.inputs.specs.Code.{Sound}
 use Rattle.sweep.specs.Code.{Ready}
 use Rattle.half_rows.specs.Code.{Modest, NoneBelow}
 use Rattle.transfers.specs.declared.Transfer.{Transfer}
@@ -56,8 +55,8 @@ pub record Listed (n : ℕ) (rs : List (List ℤ)) (ends : List ℕ) (r x : List
 
 -- a list that passed all tests of intervals and stands in rows
 pub record Plain (s : Listing) (X : List ℤ) (ends : List ℕ) : Type 0 where
-  pub right : proper (s .right) (s .size) 0 (length (s .transfers)) ≡ Pass
-  pub box : proper X (s .size) 0 (length (s .transfers) + s .size) ≡ Pass
+  pub right : Sound (s .right)
+  pub box : Sound X
   pub above : NoneBelow X
   pub rows : Rows (s .size) (s .transfers) ends
 

@@ -107,11 +107,11 @@ fn is_plain(n: usize, rs: &[[i64; 4]], b: &[i64], bounds: &[i64], ends: &mut [us
     requires { ⌜ (length (now ends) ≡ 33) × (getD (now ends) 0 0 ≡ 0) ⌝ }
     ensures { λ r. ⌜ (r ≡ true → Plain (listing n (transfersOf (now (rs .entry))) (now (b .entry))) (now (bounds .entry)) (now (ends .exit))) ⌝ }
 {
-    let r = intervals(b, n, rs.len());
+    let r = intervals(b, n, 0);
     if let Test::Fail(_) = r {
         return false;
     }
-    let x = intervals(bounds, n, rs.len() + n);
+    let x = intervals(bounds, n, 0);
     if let Test::Fail(_) = x {
         return false;
     }

@@ -81,7 +81,10 @@ pub fn find_rows(n: usize, rs: &[[i64; 4]], ends: &mut [usize]) -> bool
         ends[i + 1] = end;
         from = end;
     }
-    from == rs.len()
+    if from < rs.len() {
+        return false;
+    }
+    true
 }
 
 // The sum of row i, unrounded, in one word.

@@ -1,13 +1,11 @@
 use borrow.Author.Needs.{needs}
 use borrow.Author.Tests.{not-false}
-use mathlib.Core.Path.{_≡_, sym, ap, subst, _∙_}
-use Prim.Native.Nat.{_+_, _*_}
+use mathlib.Core.Path.{sym, subst, _∙_}
 use native.Mathlib.Omega.{arith}
 use denote.Ref.{now}
 use lib.Dec.{T}
 use lib.ListN.{length}
-use Rattle.inputs.specs.declared.Test.the-variants.{Pass}
-use Rattle.inputs.specs.Tests.{proper}
+use Rattle.inputs.specs.Code.{Sound}
 use Rattle.inputs.proofs.Place.{proper-sound}
 use Rattle.transfers.specs.Listing.{Listing, listing, transfersOf}
 use Rattle.transfers.proofs.Records.{length-transfers}
@@ -24,7 +22,7 @@ fits c = fitting _ _ (c .pre .0)
 intervals-requires : tie.Need-intervals-requires
 intervals-requires c κs =
     let f = fits (c .before) in
-    (omega (arith, f .right), omega (arith, f .few, rw (length-transfers _) at (f .short)))
+    (omega (arith, f .right), omega (arith, f .few))
 
 enum-told : tie.Need-enum-told
 enum-told c = search needs
@@ -35,15 +33,10 @@ returns c = λ e. absurd (subst T (sym e) tt)
 enum-told-2 : tie.Need-enum-told-2
 enum-told-2 c = search needs
 
-add-intervals : tie.Need-add-intervals
-add-intervals c =
-    let f = fits (c .before .before .before .before) in
-    record { fits = omega (arith, f .few, rw (length-transfers _) at (f .short)) }
-
 intervals-requires-2 : tie.Need-intervals-requires-2
 intervals-requires-2 c κs =
     let f = fits (c .before .before .before .before) in
-    (omega (arith, f .box), omega (arith, f .few, rw (length-transfers _) at (f .short)))
+    (omega (arith, f .box), omega (arith, f .few))
 
 enum-told-3 : tie.Need-enum-told-3
 enum-told-3 c = search needs
@@ -54,19 +47,17 @@ returns-2 c = λ e. absurd (subst T (sym e) tt)
 enum-told-4 : tie.Need-enum-told-4
 enum-told-4 c = search needs
 
--- the right side and the start box have passed, as the list counts their places
-right : (c : tie.After-enum-told2) → let s = lent (c .before .before .before .before) in proper (s .right) (s .size) 0 (length (s .transfers)) ≡ Pass
-right c = sym (c .before .before .intervals .ensures ∙ ap (proper _ _ 0) (sym (length-transfers _))) ∙ c .enum-told2 .given .1
+-- the right side and the start box have passed
+right : (c : tie.After-enum-told2) → Sound (now (c .before .before .before .before .args .b))
+right c = proper-sound _ _ _ (fits (c .before .before .before .before) .right) (sym (c .before .before .intervals .ensures) ∙ c .enum-told2 .given .1)
 
-box : (c : tie.After-enum-told4) → let b = c .before .before .before .before .before .before .before in let s = lent b in proper (now (b .args .bounds)) (s .size) 0 (length (s .transfers) + s .size) ≡ Pass
-box c =
-    let b = c .before .before .before .before .before .before .before in
-    sym (c .before .before .intervals2 .ensures ∙ ap (proper (now (b .args .bounds)) (b .args .n) 0) (omega (arith, length-transfers (now (b .args .rs))))) ∙ c .enum-told4 .given .1
+box : (c : tie.After-enum-told4) → Sound (now (c .before .before .before .before .before .before .before .args .bounds))
+box c = proper-sound _ _ _ (fits (c .before .before .before .before .before .before .before) .box) (sym (c .before .before .intervals2 .ensures) ∙ c .enum-told4 .given .1)
 
 all-above-requires : tie.Need-all-above-requires
 all-above-requires c κs =
     let f = fits (c .before .before .before .before .before .before .before) in
-    (f .box, f .few, proper-sound _ _ _ (f .box) (box c))
+    (f .box, f .few, box c)
 
 returns-3 : tie.Need-returns-3
 returns-3 c = λ e. absurd (subst T (sym e) tt)
@@ -92,7 +83,6 @@ is-plain-spec =
     enum-told
     returns
     enum-told-2
-    add-intervals
     intervals-requires-2
     enum-told-3
     returns-2

@@ -14,7 +14,7 @@ use Rattle.transfers.specs.Listing.{Listing, listing, squared, transfers
 use Rattle.transfers.specs.Rows.{Plain, Listed}
 use Rattle.transfers.proofs.Records.{length-transfers}
 use Rattle.transfers.proofs.Sizes.{Fitting, fitting}
-use Rattle.transfers.proofs.Square.{take-noughts}
+use Rattle.transfers.proofs.Square.{take-noughts, sound-proper}
 use Rattle.transfers.proofs.Rows.{rows-judged}
 use Rattle.transfers.proofs.Call.{over-ready, over-runs}
 use Rattle.transfers.proofs.internal.calls.sweep_sized.Statement.{statement}
@@ -44,7 +44,7 @@ tested : (c : tie.After-is-plain) → c .is-plain .result ≡ true → let s = c
 tested c e =
     let s = c .before .before .before in
     let p = plain c e in
-    over-ready 0 (lent s) (s .args .allowed) (now (s .args .bounds)) (s .pre .0) (s .pre .1) (rows-judged _ _ _ (p .rows)) (p .right) (p .box)
+    over-ready 0 (lent s) (s .args .allowed) (now (s .args .bounds)) (s .pre .0) (s .pre .1) (rows-judged _ _ _ (p .rows)) (sound-proper _ _ _ (p .right)) (sound-proper _ _ _ (p .box))
 
 run-requires : tie.Need-run-requires
 run-requires c κs =
@@ -64,7 +64,7 @@ returns c =
     let i = c .before .before .before .before .before .before in
     let s = i .before .before .before in
     let p = plain i (c .before .before .before .before .if1 .taken) in
-    over-runs _ _ _ _ (s .pre .0) (s .pre .1) (rows-judged _ _ _ (p .rows)) (p .right) (p .box) (c .before .run .ensures)
+    over-runs _ _ _ _ (s .pre .0) (s .pre .1) (rows-judged _ _ _ (p .rows)) (sound-proper _ _ _ (p .right)) (sound-proper _ _ _ (p .box)) (c .before .run .ensures)
 
 mul-square : tie.Need-mul-square
 mul-square c = record { fits = omega (arith, room (c .before .before .before .before .before)) }

@@ -3,7 +3,6 @@ use mathlib.Core.Bool.{true}
 use Prim.Native.Nat.{_+_, _-_, _≤_}
 use native.Mathlib.Omega.{arith}
 use borrow.Author.Needs.{needs}
-use borrow.Author.Tests.{eqb-true}
 use lib.Dec.{T}
 use lib.ListN.{length}
 use Rattle.transfers.specs.Listing.{transfersOf}
@@ -52,12 +51,19 @@ loop-again c =
     (omega arith, omega arith, one-found _ _ (l .loop .inv .2) (omega arith) (c .before .row-end .ensures .is (omega (arith, h))))
 
 same-length-2 : tie.Need-same-length-2 Inv-loop μ-loop
-same-length-2 c = let l = c .before in l .loop .inv .2 .room ∙ sym (l .before .before .pre .2)
+same-length-2 c = let l = c .before .before in l .loop .inv .2 .room ∙ sym (l .before .before .pre .2)
 
 returns-2 : tie.Need-returns-2 Inv-loop μ-loop
-returns-2 c =
-    let l = c .before in
-    λ e. all-found _ _ (l .loop .inv .2) (omega arith) (eqb-true _ _ e ∙ sym (length-transfers _))
+returns-2 c = λ e. absurd (subst T (sym e) tt)
+
+same-length-3 : tie.Need-same-length-3 Inv-loop μ-loop
+same-length-3 c = let l = c .before .before in l .loop .inv .2 .room ∙ sym (l .before .before .pre .2)
+
+returns-3 : tie.Need-returns-3 Inv-loop μ-loop
+returns-3 c =
+    let l = c .before .before in
+    let h = length-transfers (l .before .before .args .rs .now) in
+    λ e. all-found _ _ (l .loop .inv .2) (omega arith) (omega (arith, h))
 
 pub find-rows-spec : {M : Type 1} → statement M
 find-rows-spec =
@@ -76,4 +82,6 @@ find-rows-spec =
     loop-less
     loop-again
     same-length-2
-    returns-2)
+    returns-2
+    same-length-3
+    returns-3)
