@@ -25,6 +25,7 @@ use Rattle.inputs.proofs.Place.{length-put, sound-put, at-put-same, at-put-othe
 use Rattle.wide_sum.specs.declared.WideInterval.{WideInterval}
 use Rattle.wide_sum.specs.Wide.{heldBoth}
 use Rattle.wide_sum.specs.Code.{NearBoth}
+use Rattle.rows.specs.Word.{NoneBelow}
 use Rattle.kept_sums.specs.Kept.{sumAt, putSum, sumReady}
 use Rattle.kept_sums.proofs.Kept.{length-put-sum}
 use Rattle.sweep.specs.Pass.{up, down}
@@ -32,7 +33,7 @@ use Rattle.sweep.proofs.Pass.{intersection-accepted}
 use Rattle.half_rows.specs.declared.internal.row.RowStep.{RowStep}
 use Rattle.half_rows.specs.declared.internal.row.RowStep.the-variants.{NoState, Next}
 use Rattle.half_rows.specs.Rows.{Worked, worked, ofState, beside, halfRow, side, joined, components, halfAlong}
-use Rattle.half_rows.specs.Code.{Shaped, NoneBelow, passes, Stepped, testedPass, turn}
+use Rattle.half_rows.specs.Code.{Shaped, passes, Stepped, testedPass, turn}
 
 -- ---- the components from turn k on
 unfoldable pub rest : (back : Bool) → (n k : ℕ) → List ℕ

@@ -60,31 +60,10 @@ abbrev pub SumAbove : (acc : WideInterval) (h : List ℤ) (p : ℕ) (x : List �
 SumAbove acc h p x q d Ill = Unit {0}
 SumAbove acc h p x q d (Sum s) = AllShares h p d × Summed acc h p x q d s
 
--- a share that is an interval, not below 0 and at most 2^24
-pub record Modest (a : Interval) : Type 0 where
-  pub share : acceptable a ≡ true
-  pub above : pos 0 ≤ℤ a .lo
-  pub few : a .hi ≤ℤ pos 16_777_216
-
--- the sum of at most k products of such with components: each is at most 2^24 · 2,000,000,000
-pub record SumModest (k : ℕ) (v : Interval) : Type 0 where
-  pub lo-above : pos 0 ≤ℤ v .lo
-  pub lo-few : v .lo ≤ℤ pos (k * 33_554_432_000_000_000)
-  pub hi-above : pos 0 ≤ℤ v .hi
-  pub hi-few : v .hi ≤ℤ pos (k * 33_554_432_000_000_000)
-
-pub record NextAbove (v a b r : Interval) : Type 0 where
-  pub is : r ≡ exactSum v (exactProduct a b)
-  pub modest : (k : ℕ) → SumModest k v → SumModest (k + 1) r
-
 -- a wide number that fits 64 bits
 pub record Short (w : Wide) : Type 0 where
   pub low : negℤ (pos (2 ^ 63)) ≤ℤ held w
   pub high : held w <ℤ pos (2 ^ 63)
-
--- no component is below 0
-pub record NoneBelow (x : List ℤ) : Type 0 where
-  pub each : (j : ℕ) → pos 0 ≤ℤ at x j .lo
 
 -- ---- one row, from its half row h: the side behind it, and the new component
 unfoldable pub sideOn : (back : Bool) → (n : ℕ) → (h X : List ℤ) → (i : ℕ) → Interval

@@ -5,3 +5,4 @@ pub mod Next
 pub mod Once
 pub mod Encloses
 pub mod Whole
+pub mod Word

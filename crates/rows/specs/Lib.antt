@@ -2,3 +2,4 @@ pub mod Sum
 pub mod Exact
 pub mod Whole
 pub mod Code
+pub mod Word

@@ -1,4 +1,5 @@
 pub mod next;
+pub mod word;
 
 use crate::internal::next::next_one;
 use crate::internal::next::next_two;

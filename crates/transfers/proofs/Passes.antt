@@ -7,8 +7,8 @@ use lib.IntN.{ℤ}
 use lib.ListN.{length}
 use Rattle.integer.proofs.Order.{trans}
 use Rattle.inputs.specs.Code.{Sound}
+use Rattle.rows.specs.Word.{NoneBelow}
 use Rattle.sweep.proofs.Pass.{Halfway, ready-after}
-use Rattle.half_rows.specs.Code.{NoneBelow}
 use Rattle.transfers.specs.Listing.{square, transfersOf}
 use Rattle.transfers.specs.Rows.{Listed}
 

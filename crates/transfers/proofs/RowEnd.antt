@@ -1,20 +1,19 @@
 -- One record more in a row.
-use mathlib.Core.Path.{_≡_, refl, sym, ap, ap₂, _∙_}
-use mathlib.Core.Bool.{Bool, true, false, _&&_}
+use mathlib.Core.Path.{_≡_, refl, sym, ap, _∙_}
+use mathlib.Core.Bool.{true}
 use mathlib.Core.List.{List}
 use Prim.Native.Nat.{ℕ, zero, suc, _+_, _-_, _*_, _≤_, _<_}
 use native.Mathlib.Omega.{arith}
 use native.Mathlib.Decide.{decLt}
 use borrow.Author.Tests.{le-leb, leb-true}
 use lib.Dec.{leb}
-use lib.IntN.{ℤ, pos, natAbs}
+use lib.IntN.{pos, natAbs}
 use lib.ListN.{length, set, length-set}
 use lib.Seq.{getD-set-same, getD-set-other}
-use Rattle.interval.specs.Interval.{acceptable}
 use Rattle.interval.proofs.Range.{and-both}
 use Rattle.inputs.specs.Place.{cell}
 use Rattle.inputs.proofs.Tests.{rows-apart}
-use Rattle.half_rows.specs.Code.{Modest}
+use Rattle.rows.specs.Word.{Modest}
 use Rattle.transfers.specs.declared.Transfer.{Transfer}
 use Rattle.transfers.specs.Listing.{nth, share, isComponent, bothComponents, placeOf}
 use Rattle.transfers.specs.Code.{allGood}

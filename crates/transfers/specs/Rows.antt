@@ -9,8 +9,8 @@ use Rattle.interval.specs.declared.Interval.{Interval}
 use Rattle.interval.specs.Interval as interval
 use Rattle.inputs.specs.Place.{at}
 use Rattle.inputs.specs.Code.{Sound}
+use Rattle.rows.specs.Word.{Modest, NoneBelow}
 use Rattle.sweep.specs.Code.{Ready}
-use Rattle.half_rows.specs.Code.{Modest, NoneBelow}
 use Rattle.transfers.specs.declared.Transfer.{Transfer}
 use Rattle.transfers.specs.Listing.{Listing, nth, share, bothComponents, square, transfersOf}
 use Rattle.transfers.specs.Code.{allGood}

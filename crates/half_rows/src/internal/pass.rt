@@ -1,11 +1,11 @@
 use crate::internal::row::RowStep;
 use crate::internal::row::step;
-use crate::internal::tested::all_above;
 use inputs::Test;
 use inputs::internal::intervals;
 use inputs::internal::write;
 use interval::internal::is_empty;
 use kept_sums::internal::write_sum;
+use rows::internal::word::all_above;
 ghost use mathlib.Core.Path.{_≡_};
 ghost use Prim.Native.Nat.{_*_, _≤_, _<_};
 ghost use lib.ListN.{length};

@@ -22,9 +22,10 @@ ghost use Rattle.inputs.specs.System.{system};
 ghost use Rattle.inputs.specs.Code.{Sound};
 ghost use Rattle.wide_sum.specs.Wide.{heldBoth};
 ghost use Rattle.wide_sum.specs.Code.{NearBoth};
+ghost use Rattle.rows.specs.Word.{NoneBelow};
 ghost use Rattle.kept_sums.specs.Kept.{sumAt, sumReady};
 ghost use Rattle.half_rows.specs.Rows.{first, beside, begin, side, joined, halfRow};
-ghost use Rattle.half_rows.specs.Code.{Shaped, NoneBelow, SideSummed, sideOn, joinedOn, Stepped};
+ghost use Rattle.half_rows.specs.Code.{Shaped, SideSummed, sideOn, joinedOn, Stepped};
 
 // A row's new component, which may be empty, and the sum that was worked out; or numbers that no operation left.
 pub enum RowStep {

@@ -4,65 +4,25 @@ use inputs::internal::intervals;
 use inputs::internal::read;
 use interval::Interval;
 use interval::internal::is_acceptable;
-use interval::internal::product::product_above;
-use interval::internal::sum as add;
 use rows::internal::exact_sum;
 use rows::internal::next::next_one;
+use rows::internal::word::is_modest;
+use rows::internal::word::next_above;
 use wide_sum::WideInterval;
 use wide_sum::internal::sum::raised_both;
 ghost use mathlib.Core.Path.{_≡_};
 ghost use mathlib.Core.Bool.{true};
 ghost use Prim.Native.Nat.{_+_, _*_, _≤_, _<_};
-ghost use lib.IntN.{pos};
 ghost use lib.ListN.{length};
-ghost use lib.Signed.{_≤ℤ_};
-ghost use Rattle.interval.specs.Interval.{acceptable};
-ghost use Rattle.inputs.specs.Place.{at};
 ghost use Rattle.inputs.specs.Code.{Sound};
 ghost use Rattle.wide_sum.specs.Code.{NearBoth};
-ghost use Rattle.half_rows.specs.Code.{Modest, SumModest, NextAbove, NoneBelow, SumAbove, SumTested};
+ghost use Rattle.rows.specs.Word.{NoneBelow};
+ghost use Rattle.half_rows.specs.Code.{SumAbove, SumTested};
 
 // The sum, or a share that is no interval.
 pub enum Tested {
     Ill,
     Sum(WideInterval),
-}
-
-// Whether a share is an interval, not below 0 and at most 2^24 units, as the shares of a vat are: 32 products of such with components then fit 64 bits.
-pub fn is_modest(a: Interval) -> bool
-    ensures { λ r. ⌜ (r ≡ true → Modest a) ⌝ }
-{
-    if a.lo < 0 {
-        return false;
-    }
-    if a.hi < a.lo {
-        return false;
-    }
-    a.hi <= 16_777_216
-}
-
-// sum and the product of a modest share with a component that is not below 0.
-pub fn next_above(sum: Interval, a: Interval, b: Interval) -> Interval
-    requires { ⌜ Modest a × (acceptable b ≡ true) × (pos 0 ≤ℤ b .lo) ⌝ }
-    requires { ⌜ SumModest 31 sum ⌝ }
-    ensures { λ r. ⌜ NextAbove sum a b r ⌝ }
-{
-    let u = product_above(a, b);
-    add(sum, u)
-}
-
-// Whether no component of x is below 0. A pass never lowers a lower end, so this is asked once a pass.
-pub fn all_above(x: &[i64], n: usize) -> bool
-    requires { ⌜ (length (now x) ≡ 2 * n) × (n ≤ 32) × Sound (now x) ⌝ }
-    ensures { λ r. ⌜ (r ≡ true → NoneBelow (now (x .entry))) ⌝ }
-{
-    for j in 0..n {
-        let v = read(x, j);
-        if v.lo < 0 {
-            return false;
-        }
-    }
-    true
 }
 
 // acc and the product of the one share of g.

@@ -13,9 +13,9 @@ ghost use mathlib.Core.Path.{_≡_};
 ghost use Prim.Native.Nat.{_*_, _≤_};
 ghost use lib.ListN.{length};
 ghost use Rattle.inputs.specs.System.{system};
+ghost use Rattle.rows.specs.Word.{NoneBelow};
 ghost use Rattle.sweep.specs.Call.{sweeps};
 ghost use Rattle.sweep.specs.Code.{pass, Passed, Logged, Ran};
-ghost use Rattle.half_rows.specs.Code.{NoneBelow};
 ghost use Rattle.transfers.specs.Listing.{square, transfersOf};
 ghost use Rattle.transfers.specs.Rows.{Listed};
 

@@ -5,7 +5,7 @@ use native.Mathlib.Omega.{arith}
 use borrow.Author.Needs.{needs}
 use lib.ListN.{length}
 use Rattle.wide_sum.proofs.Near.{near-both-more}
-use Rattle.half_rows.specs.Code.{NoneBelow}
+use Rattle.rows.specs.Word.{NoneBelow}
 use Rattle.half_rows.proofs.Pass.{Halfway, halfway-start, halfway-end, below, halfway-ill, halfway-stop, halfway-go, halfway-above, next-near}
 use Rattle.half_rows.proofs.internal.pass.half_pass.Statement.{statement}
 use Rattle.half_rows.proofs.internal.pass.half_pass.Tie as tie

@@ -6,7 +6,8 @@ use denote.Ref.{now}
 use Rattle.interval.specs.Interval.{acceptable}
 use Rattle.wide_sum.proofs.Near.{near-both-more}
 use Rattle.rows.specs.Code.{Summed}
-use Rattle.half_rows.proofs.Shares.{SoFar, none-yet, next-sum, summed-none, summed-up, modest-more}
+use Rattle.rows.proofs.Word.{modest-more}
+use Rattle.half_rows.proofs.Shares.{SoFar, none-yet, next-sum, summed-none, summed-up}
 use Rattle.half_rows.proofs.internal.tested.sum_above.Statement.{statement}
 use Rattle.half_rows.proofs.internal.tested.sum_above.Tie as tie
 

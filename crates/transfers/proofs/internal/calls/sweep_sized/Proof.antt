@@ -1,19 +1,18 @@
 use borrow.Author.Needs.{needs}
 use mathlib.Core.Bool.{true}
-use mathlib.Core.Path.{_≡_, sym, _∙_}
+use mathlib.Core.Path.{_≡_, sym}
 use Prim.Native.Nat.{_*_, _≤_}
 use native.Mathlib.Omega.{arith}
 use denote.Ref.{now}
-use lib.ListN.{length}
 use lib.Seq.{length-take-le}
 use Rattle.inputs.specs.declared.Test.the-variants.{Pass}
 use Rattle.inputs.proofs.Tests.{square}
 use Rattle.sweep.specs.Call.{tests}
 use Rattle.sweep.proofs.Tests.{ready, allowed-few}
 use Rattle.transfers.specs.Listing.{Listing, listing, squared, transfersOf}
-use Rattle.transfers.specs.Rows.{Plain, Listed}
+use Rattle.transfers.specs.Rows.{Plain}
 use Rattle.transfers.proofs.Records.{length-transfers}
-use Rattle.transfers.proofs.Sizes.{Fitting, fitting}
+use Rattle.transfers.proofs.Sizes.{fitting}
 use Rattle.transfers.proofs.Square.{take-noughts, sound-proper}
 use Rattle.transfers.proofs.Rows.{rows-judged}
 use Rattle.transfers.proofs.Call.{over-ready, over-runs}

@@ -1,16 +1,10 @@
 use borrow.Author.Needs.{needs}
 use mathlib.Core.Path.{_≡_, sym, _∙_}
-use Prim.Native.Nat.{_*_, _≤_}
-use native.Mathlib.Omega.{arith}
 use denote.Ref.{now}
 use lib.ListN.{length}
-use lib.Seq.{length-take-le}
 use Rattle.inputs.specs.declared.Test.the-variants.{Pass}
-use Rattle.inputs.proofs.Tests.{square}
 use Rattle.sweep.specs.Call.{allowance}
 use Rattle.transfers.specs.Listing.{Listing, listing, sizes, transfersOf}
-use Rattle.transfers.proofs.Sizes.{fitting}
-use Rattle.transfers.proofs.Square.{take-noughts}
 use Rattle.transfers.proofs.Call.{over-sizes, over-allowed, refuses}
 use Rattle.transfers.proofs.internal.calls.swept_records.Statement.{statement}
 use Rattle.transfers.proofs.internal.calls.swept_records.Tie as tie

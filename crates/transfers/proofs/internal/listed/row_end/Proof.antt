@@ -1,5 +1,4 @@
-use mathlib.Core.Path.{_≡_, sym, ap, subst, _∙_}
-use mathlib.Core.Bool.{true}
+use mathlib.Core.Path.{_≡_, subst}
 use mathlib.Core.List.{List}
 use Prim.Native.Nat.{ℕ, _+_, _-_, _≤_, _<_}
 use native.Mathlib.Omega.{arith}
@@ -10,9 +9,8 @@ use mir.ValLaws.{toZ-ofZ}
 use borrow.Author.Tests.{not-false}
 use lib.IntN.{natAbs}
 use lib.ListN.{length}
-use Rattle.half_rows.specs.Code.{Modest}
 use Rattle.transfers.specs.declared.Transfer.{Transfer}
-use Rattle.transfers.specs.Listing.{nth, share, isComponent, transfersOf}
+use Rattle.transfers.specs.Listing.{nth, share, transfersOf}
 use Rattle.transfers.specs.Rows.{InRow, RowOf}
 use Rattle.transfers.proofs.Records.{length-transfers}
 use Rattle.transfers.proofs.RowEnd.{SoFar, none-yet, one-more, row-ends, in-row}

@@ -1,17 +1,15 @@
-use mathlib.Core.Path.{_≡_, refl, sym, ap, ap₂, subst, _∙_}
-use mathlib.Core.Bool.{true}
-use Prim.Native.Nat.{ℕ, _+_, _-_, _≤_, _<_}
+use mathlib.Core.Path.{_≡_, refl, sym, ap, subst, _∙_}
+use Prim.Native.Nat.{ℕ, _+_, _-_, _≤_}
 use native.Mathlib.Omega.{arith}
 use borrow.Author.Needs.{needs}
 use denote.Ref.{now}
-use lib.ListN.{length}
 use mir.Syntax.{w64}
 use mir.Val.{SFits}
 use mir.ValLaws.{toZ-ofZ}
 use Rattle.interval.specs.Interval.{acceptable}
-use Rattle.half_rows.specs.Code.{Modest, SumModest}
-use Rattle.half_rows.proofs.Shares.{nought-modest, modest-more}
-use Rattle.transfers.specs.Listing.{nth, share, isComponent, transfersOf}
+use Rattle.rows.specs.Word.{SumModest}
+use Rattle.rows.proofs.Word.{nought-modest, modest-more}
+use Rattle.transfers.specs.Listing.{nth, share, transfersOf}
 use Rattle.transfers.specs.Rows.{InRow, RowOf, end, summed, rowSum}
 use Rattle.transfers.proofs.Records.{length-transfers}
 use Rattle.transfers.proofs.Component.{giver}

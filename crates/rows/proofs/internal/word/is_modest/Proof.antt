@@ -4,9 +4,9 @@ use borrow.Author.Needs.{needs}
 use mir.Syntax.{w64}
 use mir.Val.{SFits}
 use mir.ValLaws.{toZ-ofZ}
-use Rattle.half_rows.proofs.Shares.{modest-is}
-use Rattle.half_rows.proofs.internal.tested.is_modest.Statement.{statement}
-use Rattle.half_rows.proofs.internal.tested.is_modest.Tie as tie
+use Rattle.rows.proofs.Word.{modest-is}
+use Rattle.rows.proofs.internal.word.is_modest.Statement.{statement}
+use Rattle.rows.proofs.internal.word.is_modest.Tie as tie
 
 returns : tie.Need-returns
 returns c = λ e. absurd (subst T (sym e) tt)

@@ -5,10 +5,10 @@ use borrow.Author.Needs.{needs}
 use Rattle.interval.specs.declared.Interval.{Interval}
 use Rattle.interval.specs.Interval.{exactSum}
 use Rattle.interval.specs.Code.{Representable}
-use Rattle.half_rows.specs.Code.{SumModest}
-use Rattle.half_rows.proofs.Shares.{sum-modest, modest-fits}
-use Rattle.half_rows.proofs.internal.tested.next_above.Statement.{statement}
-use Rattle.half_rows.proofs.internal.tested.next_above.Tie as tie
+use Rattle.rows.specs.Word.{SumModest}
+use Rattle.rows.proofs.Word.{sum-modest, modest-fits}
+use Rattle.rows.proofs.internal.word.next_above.Statement.{statement}
+use Rattle.rows.proofs.internal.word.next_above.Tie as tie
 
 product-above-requires : tie.Need-product-above-requires
 product-above-requires c κs = search needs

@@ -7,9 +7,9 @@ use lib.IntN.{pos}
 use lib.Signed.{_≤ℤ_}
 use Rattle.interval.proofs.Range.{is-sound, negative-left}
 use Rattle.inputs.specs.Place.{at}
-use Rattle.half_rows.proofs.Shares.{above-more, above-all}
-use Rattle.half_rows.proofs.internal.tested.all_above.Statement.{statement}
-use Rattle.half_rows.proofs.internal.tested.all_above.Tie as tie
+use Rattle.rows.proofs.Word.{above-more, above-all}
+use Rattle.rows.proofs.internal.word.all_above.Statement.{statement}
+use Rattle.rows.proofs.internal.word.all_above.Tie as tie
 
 abbrev Inv-loop : tie.InvT-loop
 Inv-loop x n j₀ j = (i : ℕ) → i < j → pos 0 ≤ℤ at x i .lo
