@@ -223,6 +223,9 @@ pub const VATS: &str = "11 at the first, a middle, the last transfer, 1,023";
 /// Where they are for their sequence: the first one never is.
 pub const ORDERS: &str = "12 at the second, a middle, the last transfer, 1,023";
 
+/// How the library sweeps a list: put into the square, or as it is.
+pub const WAYS: [&str; 2] = ["0 or 9 by the square for n", "0 or 9 by rows for n"];
+
 /// Of the three calls, which come together.
 pub fn of_transfers() -> Vec<Goal> {
     let at_vats = |name| Goal::at(name, 1..=MOST_EQUATIONS);
@@ -244,7 +247,7 @@ pub fn of_transfers() -> Vec<Goal> {
     ];
     shared.extend(single.map(Goal::once));
     let eliminate = ["5 at pivot", "6 in row"].map(at_vats).to_vec();
-    let sweep = ["9 for n", "7 at vat"].map(at_vats).into_iter();
+    let sweep = ["9 for n", "7 at vat"].into_iter().chain(WAYS).map(at_vats);
     let sweep: Vec<_> = sweep.chain(["3 in the box", "4"].map(Goal::once)).collect();
     let calls = [
         ("eliminate_transfers", eliminate),

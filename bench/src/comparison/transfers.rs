@@ -1,6 +1,6 @@
 //! Comparing calls from a list of transfers, also with the side's own calls from the square.
 
-use super::goals::{ORDERS, VATS};
+use super::goals::{ORDERS, VATS, WAYS};
 use super::lent::difference;
 use super::{Tally, Trial};
 use crate::case::{Answer, Case};
@@ -105,6 +105,13 @@ impl Transfers {
         }
     }
 
+    /// Whether the library sums the rows of the list itself, each in one word.
+    fn is_plain(&self) -> bool {
+        let modest = |ends: &[i64]| 0 <= ends[0] && ends[1] <= 1 << 24;
+        let mut boxes = self.lent.bounds.chunks_exact(2);
+        self.list().all(|transfer| modest(&transfer[2..])) && boxes.all(|ends| 0 <= ends[0])
+    }
+
     /// 0 at the first transfer that can be refused so, 1 between, 2 at the last, 3 at 1,023.
     fn spot(&self, first: usize, place: usize) -> usize {
         match place {
@@ -142,10 +149,13 @@ impl Transfers {
             TRANSFER_ORDER if vats(place) == vats(place - 1) => Some("12 with the same vats"),
             _ => None,
         };
+        let swept = self.call != ListCall::Eliminate && [DONE, SPENT].contains(&number);
+        let way = swept.then(|| WAYS[usize::from(self.is_plain())]);
         tally.count(number);
         for (goal, at) in [(goal, at)]
             .into_iter()
             .chain(further.map(|goal| (goal, 0)))
+            .chain(way.map(|goal| (goal, n)))
         {
             tally.reach_by(self.call.name(), goal, at);
         }

@@ -29,7 +29,7 @@ pub enum Side {
 /// What a task is called, and how it is made for so many vats.
 pub type Kind = (&'static str, fn(usize) -> Task);
 
-pub const KINDS: [Kind; 30] = [
+pub const KINDS: [Kind; 31] = [
     ("eliminate-shares", |n| Task::Eliminate(shares(n))),
     ("eliminate-mixed", |n| Task::Eliminate(mixed(n))),
     ("start-shares", |n| Task::Start(shares(n))),
@@ -84,6 +84,9 @@ pub const KINDS: [Kind; 30] = [
         Task::full(with_wide_box(shares(n)), ONE_SWEEP)
     }),
     ("full-sweeps", |n| Task::full(slow(shares(n - 1)), SWEEPS)),
+    ("full-mixed", |n| {
+        Task::full(with_wide_box(mixed(n)), ONE_SWEEP)
+    }),
     ("read-longest", |n| Task::report(&crossed(longest(n)))),
     ("read-noughts", |n| {
         Task::on_text(short_named_text(&crossed(noughts(n))))
