@@ -135,6 +135,9 @@ fn listed(random: &mut Random, drawn: SweepList) -> Transfers {
     };
     let thin = solution.is_none() && random.once_in(3);
     lent.matrix = list_of(random, &lent.matrix, thin);
+    if solution.is_none() && random.once_in(2) {
+        make_plain(&mut lent);
+    }
     if random.once_in(3) {
         spoil_some(random, &mut lent);
         solution = None;
@@ -144,6 +147,17 @@ fn listed(random: &mut Random, drawn: SweepList) -> Transfers {
         lent,
         solution,
     }
+}
+
+/// Shares from 0 to 2^24 units and a box not below 0, as in a cellar.
+fn make_plain(lent: &mut Case) {
+    for transfer in lent.matrix.chunks_exact_mut(TRANSFER) {
+        let ends = &mut transfer[2..];
+        ends.iter_mut()
+            .for_each(|end| *end = end.saturating_abs().min(1 << 24));
+        ends.sort_unstable();
+    }
+    lent.bounds.iter_mut().for_each(|end| *end = (*end).max(0));
 }
 
 /// Of the noughts all are listed, some or none; if thin, some of the others.
