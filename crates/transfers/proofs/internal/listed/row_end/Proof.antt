@@ -73,8 +73,8 @@ loop-less : tie.Need-loop-less Inv-loop μ-loop
 loop-less c = omega arith
 
 -- the record that was read is the next one of the row
-more : {n i from k passed p : ℕ} {ts : List Transfer} {t : Transfer} → t ≡ nth ts k → SoFar n ts i from k passed → k < length ts → InRow n i t → passed ≤ natAbs (t .giver) - 1 → p ≡ natAbs (t .giver) - 1
-    → SoFar n ts i from (k + 1) (p + 1)
+more : {n i from k passed p : ℕ} {ts : List Transfer} {t : Transfer} → t ≡ nth ts k → SoFar n ts i from k passed → k < length ts → InRow n i t → passed ≤ natAbs (t .giver) - 1 → p ≡ natAbs (t .giver) - 1 + 1
+    → SoFar n ts i from (k + 1) p
 more {ts = ts} {t} e s h w l f = rw (f, e) (one-more _ _ _ _ s h (rw e at w) (rw e at l))
 
 loop-again : tie.Need-loop-again Inv-loop μ-loop
@@ -91,7 +91,7 @@ loop-again c =
     let w = in-row (g .result) r (omega arith) (t .0) (rw (c .before .before .before .before .share .ensures) at m) in
     let e = rw rb at (c .index .ensures .0) in
     let h = length-transfers (l .before .args .rs .now) in
-    (omega arith, more (g .ensures) (l .loop .inv .1) (omega (arith, h)) w (t .1) e)
+    (omega arith, more (g .ensures) (l .loop .inv .1) (omega (arith, h)) w (t .1) (omega (arith, e)))
 
 returns-4 : tie.Need-returns-4 Inv-loop μ-loop
 returns-4 c =
