@@ -1,15 +1,18 @@
 -- Vat numbers as naturals.
-use mathlib.Core.Path.{_≡_, ap, subst, _∙_}
-use mathlib.Core.Bool.{true, false}
-use Prim.Native.Nat.{ℕ, _+_, _-_, _≤_, _<_}
+use mathlib.Core.Path.{_≡_, refl, sym, ap, subst, _∙_}
+use mathlib.Core.Bool.{true}
+use Prim.Native.Nat.{ℕ, suc, _+_, _-_, _≤_, _<_}
 use native.Mathlib.Omega.{arith}
-use borrow.Author.Tests.{leb-true, leb-false, le-leb}
+use borrow.Author.Tests.{leb-true, le-leb}
 use lib.Dec.{leb, T}
 use lib.IntN.{ℤ, pos, negsuc, natAbs}
-use lib.Signed.{leZ}
+use lib.Signed.{ltZ}
+use mir.Syntax.{w64}
+use mir.Val.{SFits}
 use Rattle.interval.proofs.Range.{and-both}
 use Rattle.transfers.specs.declared.Transfer.{Transfer}
 use Rattle.transfers.specs.Listing.{isComponent, bothComponents}
+use Rattle.transfers.specs.Rows.{Later}
 
 -- a vat number, with the row or column that it has from 0
 pub record Component (n : ℕ) (v : ℤ) : Type 0 where
@@ -40,8 +43,15 @@ pub giver : (n : ℕ) (t : Transfer) → bothComponents n t ≡ true → isCompo
 unfolding bothComponents
 giver n t e = and-both (isComponent n (t .receiver)) (isComponent n (t .giver)) e .1
 
--- a number past the first ones, so many, and at most n
-pub later : (n first : ℕ) (v : ℤ) → leZ v (pos first) ≡ false → leZ v (pos n) ≡ true → (isComponent n v ≡ true) × (first ≤ natAbs v - 1)
+-- a number past the first ones, so many
+pub later : (first : ℕ) (v : ℤ) → SFits w64 v → ltZ (pos first) v ≡ true → Later first v
+later first (pos m) f a = record { is = refl; past = leb-true (suc first) m a; few = few f }
+  where
+    few : SFits w64 (pos m) → m ≤ 9223372036854775807
+    few h = let k = h .sfits in omega (arith, k)
+later first (negsuc m) f a = absurd (subst T (sym a) tt)
+
+-- and at most n
+pub later-component : (n : ℕ) {first : ℕ} {v : ℤ} → Later first v → natAbs v ≤ n → isComponent n v ≡ true
 unfolding isComponent
-later n first (pos m) a b = let l = leb-false m first a in (rw (le-leb 1 m (omega (arith, l)), b), omega (arith, l))
-later n first (negsuc m) a b = absurd (subst T a tt)
+later-component n {v = v} l h = rw (l .is, le-leb 1 (natAbs v) (omega (arith, l .past)), le-leb (natAbs v) n h)

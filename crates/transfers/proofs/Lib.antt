@@ -10,6 +10,7 @@ pub mod Sizes
 pub mod Square
 pub mod Places
 pub mod RowEnd
+pub mod Short
 pub mod Rows
 pub mod Passes
 pub mod Call

@@ -10,19 +10,47 @@ use lib.Dec.{leb}
 use lib.IntN.{pos, natAbs}
 use lib.ListN.{length, set, length-set}
 use lib.Seq.{getD-set-same, getD-set-other}
-use Rattle.interval.proofs.Range.{and-both}
+use lib.Signed.{_≤ℤ_, ≤ℤ-refl}
+use Rattle.integer.proofs.Order.{trans}
+use Rattle.integer.proofs.Extremes.{min-le-left, min-le-right, le-max-left, le-max-right}
+use Rattle.interval.specs.declared.Interval.{Interval}
+use Rattle.interval.specs.Interval.{acceptable}
+use Rattle.interval.proofs.Range.{and-both, sound-accepted}
 use Rattle.inputs.specs.Place.{cell}
 use Rattle.inputs.proofs.Tests.{rows-apart}
-use Rattle.rows.specs.Word.{Modest}
 use Rattle.transfers.specs.declared.Transfer.{Transfer}
 use Rattle.transfers.specs.Listing.{nth, share, isComponent, bothComponents, placeOf}
 use Rattle.transfers.specs.Code.{allGood}
-use Rattle.transfers.specs.Rows.{InRow, RowOf, Rows, end}
-use Rattle.transfers.proofs.Component.{component, component-row, giver}
+use Rattle.transfers.specs.Rows.{Holds, hull, InRange, Later, InRow, RowOf, Rows, end}
+use Rattle.transfers.proofs.Component.{component, component-row, giver, later-component}
 use Rattle.transfers.proofs.Good.{good-go}
 
+-- ---- hulls
+pub holds-self : (h : Interval) → Holds h h
+holds-self h = record { low = ≤ℤ-refl (h .lo); high = ≤ℤ-refl (h .hi) }
+
+pub holds-trans : {g h v : Interval} → Holds g h → Holds h v → Holds g v
+holds-trans a b = record { low = trans (a .low) (b .low); high = trans (b .high) (a .high) }
+
+module _ (h v : Interval) where
+  pub hull-left : Holds (hull h v) h
+  unfolding hull
+  hull-left = record { low = min-le-left (h .lo) (v .lo); high = le-max-left (h .hi) (v .hi) }
+
+  pub hull-right : Holds (hull h v) v
+  unfolding hull
+  hull-right = record { low = min-le-right (h .lo) (v .lo); high = le-max-right (h .hi) (v .hi) }
+
+pub range-held : {h v : Interval} → Holds h v → InRange h → InRange v
+range-held w r = record { low = trans (r .low) (w .low); high = trans (w .high) (r .high) }
+
+-- a share in sequence with its hull in the range
+pub share-acceptable : {v : Interval} → v .lo ≤ℤ v .hi → InRange v → acceptable v ≡ true
+share-acceptable {v} o r =
+    sound-accepted v (record { order = o; lo-in = record { low = r .low; high = trans o (r .high) }; hi-in = record { low = trans (r .low) o; high = r .high } })
+
 -- ---- a record of a row stands in that row, in the column of its giver
-module _ {n i : ℕ} {t : Transfer} (w : InRow n i t) where
+module _ {n i : ℕ} {h : Interval} {t : Transfer} (w : InRow n i h t) where
   pub column-below : natAbs (t .giver) - 1 < n
   column-below = let g = component n (t .giver) (giver n t (w .components)) in rw (component-row g) (g .below)
 
@@ -30,9 +58,16 @@ module _ {n i : ℕ} {t : Transfer} (w : InRow n i t) where
   unfolding placeOf
   row-place = let e : i + 1 - 1 ≡ i = omega arith in ap (λ k. cell n k (natAbs (t .giver) - 1)) (ap (λ z. natAbs z - 1) (w .row) ∙ e)
 
-pub in-row : {n i : ℕ} (t : Transfer) → t .receiver ≡ pos (i + 1) → i < n → isComponent n (t .giver) ≡ true → Modest (share t) → InRow n i t
+  pub row-acceptable : InRange h → acceptable (share t) ≡ true
+  row-acceptable r = share-acceptable (w .order) (range-held (w .held) r)
+
+  pub row-held : {g : Interval} → Holds g h → InRow n i g t
+  row-held a = record { components = w .components; row = w .row; order = w .order; held = holds-trans a (w .held) }
+
+pub in-row : {n i : ℕ} {h : Interval} (t : Transfer) → t .receiver ≡ pos (i + 1) → i < n → isComponent n (t .giver) ≡ true → t .lo ≤ℤ t .hi → Holds h (share t) → InRow n i h t
 unfolding bothComponents isComponent
-in-row {n} {i} t e h g m = record { components = rw (e, le-leb 1 (i + 1) (omega arith), le-leb (i + 1) n (omega arith)) g; row = e; modest = m }
+in-row {n} {i} t e h g o m =
+    record { components = rw (e, le-leb 1 (i + 1) (omega arith), le-leb (i + 1) n (omega arith)) g; row = e; order = o; held = m }
 
 -- ---- records that are good from a place on are so from a place before it
 pub good-sooner : (n : ℕ) (ts : List Transfer) (d k : ℕ) {a b : ℕ} → a ≤ b → allGood n ts d k b ≡ true → allGood n ts d k a ≡ true
@@ -46,66 +81,89 @@ good-sooner n ts (suc d) k {a} {b} h e =
 
 -- ---- row i from one record on, so far
 module _ (n : ℕ) (ts : List Transfer) (i from : ℕ) where
-  -- up to the record k, the row has passed so many columns
-  pub record SoFar (k passed : ℕ) : Type 0 where
+  -- up to the record k, the row has passed so many columns; if they are in the square, it has these records, with their shares in h
+  pub record SoFar (k passed : ℕ) (h : Interval) : Type 0 where
     pub forward : from ≤ k
     pub few : k ≤ from + passed
-    pub columns : passed ≤ n
-    pub each : (j : ℕ) → from ≤ j → j < k → InRow n i (nth ts j)
-    pub good : allGood n ts (length ts - k) k (i * n + passed) ≡ true → allGood n ts (length ts - from) from (i * n) ≡ true
+    pub each : passed ≤ n → (j : ℕ) → from ≤ j → j < k → InRow n i h (nth ts j)
+    pub good : passed ≤ n → InRange h → allGood n ts (length ts - k) k (i * n + passed) ≡ true → allGood n ts (length ts - from) from (i * n) ≡ true
 
-  pub none-yet : SoFar from 0
-  none-yet =
+  pub none-yet : (h : Interval) → SoFar from 0 h
+  none-yet h =
       record {
         forward = omega arith;
         few = omega arith;
-        columns = omega arith;
-        each = λ j a b. absurd (omega arith);
-        good = λ e. let z : i * n + 0 ≡ i * n = omega arith in rw z at e;
+        each = λ _ j a b. absurd (omega arith);
+        good = λ _ _ e. let z : i * n + 0 ≡ i * n = omega arith in rw z at e;
       }
 
-  module _ {k passed : ℕ} (s : SoFar k passed) where
-    pub one-more : k < length ts → InRow n i (nth ts k) → passed ≤ natAbs (nth ts k .giver) - 1 → SoFar (k + 1) (natAbs (nth ts k .giver) - 1 + 1)
-    one-more h w l =
-        record {
-          forward = omega (arith, s .forward);
-          few = omega (arith, s .few);
-          columns = omega (arith, column-below w);
-          each = λ j a b. go j a b (decLt j k);
-          good = λ e.
-              let p = row-place w in
-              let z : i * n + (natAbs (nth ts k .giver) - 1 + 1) ≡ placeOf n (nth ts k) + 1 = omega (arith, p) in
-              s .good (good-go n ts (length ts) k (i * n + passed) h (w .components) (omega (arith, p)) (w .modest .share) ∙ rw z at e);
-        }
-      where
-        go : (j : ℕ) → from ≤ j → j < k + 1 → Dec (j < k) → InRow n i (nth ts j)
-        go j a b (yes c) = s .each j a c
-        go j a b (no c) = let z : k ≡ j = omega (arith, b, c) in rw (sym z) w
+  module _ {k passed : ℕ} {h : Interval} (s : SoFar k passed h) where
+    module _ (a : i < n) (b : k < length ts) (e : nth ts k .receiver ≡ pos (i + 1)) (l : Later passed (nth ts k .giver)) (o : nth ts k .lo ≤ℤ nth ts k .hi) where
+      abbrev t : Transfer
+      t = nth ts k
 
-    pub row-ends : k ≤ length ts → RowOf n ts i from k
-    row-ends h =
+      abbrev g : Interval
+      g = hull h (share t)
+
+      abbrev number : ℕ
+      number = natAbs (t .giver)
+
+      -- the record itself, if its column is in the square
+      own : number ≤ n → InRow n i g t
+      own c = in-row t e a (later-component n l c) o (hull-right h (share t))
+
+      pub one-more : SoFar (k + 1) number g
+      one-more =
+          record {
+            forward = omega (arith, s .forward);
+            few = omega (arith, s .few, l .past);
+            each = λ c j f m. go c j f m (decLt j k);
+            good = λ c r m.
+                let w = own c in
+                let p = row-place w in
+                let z : i * n + number ≡ placeOf n t + 1 = omega (arith, p, l .past) in
+                s .good (omega (arith, c, l .past)) (range-held (hull-left h (share t)) r)
+                (good-go n ts (length ts) k (i * n + passed) b (w .components) (omega (arith, p, l .past)) (row-acceptable w r) ∙ rw z at m);
+          }
+        where
+          go : number ≤ n → (j : ℕ) → from ≤ j → j < k + 1 → Dec (j < k) → InRow n i g (nth ts j)
+          go c j f m (yes d) = row-held (s .each (omega (arith, c, l .past)) j f d) (hull-left h (share t))
+          go c j f m (no d) = let z : k ≡ j = omega (arith, m, d) in rw (sym z) (own c)
+
+    pub row-ends : passed ≤ n → k ≤ length ts → RowOf n ts i h from k
+    row-ends c m =
         record {
           forward = s .forward;
-          within = h;
-          few = omega (arith, s .few, s .columns);
-          each = s .each;
-          good = λ e. let r = rows-apart n i (i + 1) (omega arith) in s .good (good-sooner n ts (length ts - k) k (omega (arith, r, s .columns)) e);
+          within = m;
+          few = omega (arith, s .few, c);
+          each = s .each c;
+          good = λ r e. let q = rows-apart n i (i + 1) (omega arith) in s .good c r (good-sooner n ts (length ts - k) k (omega (arith, q, c)) e);
         }
 
+pub row-wider : {n : ℕ} {ts : List Transfer} {i k e : ℕ} {g h : Interval} → Holds g h → RowOf n ts i h k e → RowOf n ts i g k e
+row-wider a w =
+    record {
+      forward = w .forward;
+      within = w .within;
+      few = w .few;
+      each = λ j f m. row-held (w .each j f m) a;
+      good = λ r. w .good (range-held a r);
+    }
+
 -- ---- the rows before row i are found, and from is where the last of them ends
-pub record Found (n : ℕ) (ts : List Transfer) (ends : List ℕ) (from i : ℕ) : Type 0 where
+pub record Found (n : ℕ) (ts : List Transfer) (ends : List ℕ) (h : Interval) (from i : ℕ) : Type 0 where
   pub room : length ends ≡ 33
   pub first : end ends 0 ≡ 0
   pub last : end ends i ≡ from
-  pub row : (j : ℕ) → j < i → RowOf n ts j (end ends j) (end ends (j + 1))
+  pub row : (j : ℕ) → j < i → RowOf n ts j h (end ends j) (end ends (j + 1))
 
 module _ (n : ℕ) (ts : List Transfer) where
-  pub none-found : {ends : List ℕ} → length ends ≡ 33 → end ends 0 ≡ 0 → Found n ts ends 0 0
+  pub none-found : {ends : List ℕ} {h : Interval} → length ends ≡ 33 → end ends 0 ≡ 0 → Found n ts ends h 0 0
   none-found l e = record { room = l; first = e; last = e; row = λ j h. absurd (omega arith) }
 
-  module _ {ends : List ℕ} {from i : ℕ} (f : Found n ts ends from i) where
-    pub one-found : {e : ℕ} → i < 32 → RowOf n ts i from e → Found n ts (set ends (i + 1) e) e (i + 1)
-    one-found {e} h w =
+  module _ {ends : List ℕ} {h : Interval} {from i : ℕ} (f : Found n ts ends h from i) where
+    pub one-found : {e : ℕ} {g : Interval} → i < 32 → Holds g h → RowOf n ts i g from e → Found n ts (set ends (i + 1) e) g e (i + 1)
+    one-found {e} {g} l a w =
         record {
           room = length-set ends (i + 1) e ∙ f .room;
           first = other 0 (omega arith) ∙ f .first;
@@ -119,9 +177,9 @@ module _ (n : ℕ) (ts : List Transfer) where
         other : (j : ℕ) → j < i + 1 → end (set ends (i + 1) e) j ≡ end ends j
         other j b = getD-set-other ends (i + 1) j e 0 (omega (arith, b))
 
-        go : (j : ℕ) → j < i + 1 → Dec (j < i) → RowOf n ts j (end (set ends (i + 1) e) j) (end (set ends (i + 1) e) (j + 1))
-        go j b (yes c) = rw (other j b, other (j + 1) (omega arith)) (f .row j c)
+        go : (j : ℕ) → j < i + 1 → Dec (j < i) → RowOf n ts j g (end (set ends (i + 1) e) j) (end (set ends (i + 1) e) (j + 1))
+        go j b (yes c) = rw (other j b, other (j + 1) (omega arith)) (row-wider a (f .row j c))
         go j b (no c) = let z : i ≡ j = omega (arith, b, c) in rw (sym z, other i (omega arith), own, f .last) w
 
-    pub all-found : i ≡ n → from ≡ length ts → Rows n ts ends
-    all-found e h = record { first = f .first; last = rw (sym e) (f .last ∙ h); row = λ j b. f .row j (omega (arith, e, b)) }
+    pub all-found : i ≡ n → from ≡ length ts → Rows n ts ends h
+    all-found e l = record { first = f .first; last = rw (sym e) (f .last ∙ l); row = λ j b. f .row j (omega (arith, e, b)) }

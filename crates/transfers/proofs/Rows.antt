@@ -21,7 +21,7 @@ use Rattle.rows.proofs.Exact.{sum-nought}
 use Rattle.transfers.specs.declared.Transfer.{Transfer}
 use Rattle.transfers.specs.Listing.{nth, share, entries, placeOf, square}
 use Rattle.transfers.specs.Code.{allGood, judgement}
-use Rattle.transfers.specs.Rows.{InRow, Rows, end, summed, rowSum}
+use Rattle.transfers.specs.Rows.{InRange, InRow, Rows, end, summed, rowSum}
 use Rattle.transfers.proofs.Good.{good-end, each, good-passes}
 use Rattle.transfers.proofs.Places.{no-place, rises, own-place}
 use Rattle.transfers.proofs.RowEnd.{row-place, column-below}
@@ -48,7 +48,7 @@ module _ (ts : List Transfer) (x : List ℤ) (e k : ℕ) (acc : Interval) where
       → r ≡ exactSum acc (exactProduct a b) → s ≡ summed ts x (e - (k + 1)) (k + 1) r
   summed-next f h g p q l u = rw (u, l, q, p, g) (f ∙ summed-go h)
 
-module _ (n : ℕ) (ts : List Transfer) (ends : List ℕ) (w : Rows n ts ends) where
+module _ (n : ℕ) (ts : List Transfer) (ends : List ℕ) {shares : Interval} (range : InRange shares) (w : Rows n ts ends shares) where
   abbrev P : ℕ → ℕ
   P k = placeOf n (nth ts k)
 
@@ -61,7 +61,7 @@ module _ (n : ℕ) (ts : List Transfer) (ends : List ℕ) (w : Rows n ts ends) w
           let f : i ≡ n = omega arith in
           let l = ap (end ends) f ∙ w .last in
           good-end n ts (length ts) (end ends i) (i * n) (omega (arith, l))
-      go (suc d) i e = w .row i (omega arith) .good (go d (i + 1) (omega arith))
+      go (suc d) i e = w .row i (omega arith) .good range (go d (i + 1) (omega arith))
 
   pub rows-judged : judgement n ts ≡ Pass
   rows-judged = good-passes n ts (rw (w .first, sub-zero (length ts), zero-mul n) at (rows-good 0 (omega arith)))
@@ -116,7 +116,7 @@ module _ (n : ℕ) (ts : List Transfer) (ends : List ℕ) (w : Rows n ts ends) w
       left : (j : ℕ) → j < k → P j < i * n + c
       right : (j : ℕ) → k ≤ j → j < length ts → i * n + c ≤ P j
 
-    of-row : (k : ℕ) → first ≤ k → k < past → InRow n i (nth ts k)
+    of-row : (k : ℕ) → first ≤ k → k < past → InRow n i shares (nth ts k)
     of-row k a b = w .row i h .each k a b
 
     within : past ≤ length ts

@@ -1,64 +1,110 @@
--- The rows of a list whose shares are modest, and a row's sum over its records alone.
+-- The rows of a list, and a row's sum over its records alone.
 use mathlib.Core.Path.{_≡_}
-use mathlib.Core.Bool.{true}
+use mathlib.Core.Bool.{Bool, true}
 use mathlib.Core.List.{List}
 use Prim.Native.Nat.{ℕ, zero, suc, _+_, _-_, _*_, _≤_, _<_}
-use lib.IntN.{ℤ, pos, natAbs}
+use lib.IntN.{ℤ, pos, negℤ, natAbs}
 use lib.ListN.{length, getD}
+use lib.Signed.{_≤ℤ_}
+use Rattle.integer.specs.Extremes.{minimum, maximum}
 use Rattle.interval.specs.declared.Interval.{Interval}
 use Rattle.interval.specs.Interval as interval
 use Rattle.inputs.specs.Place.{at}
 use Rattle.inputs.specs.Code.{Sound}
-use Rattle.rows.specs.Word.{Modest, NoneBelow}
+use Rattle.rows.specs.Word.{NoneBelow}
 use Rattle.sweep.specs.Code.{Ready}
 use Rattle.transfers.specs.declared.Transfer.{Transfer}
+use Rattle.transfers.specs.declared.internal.found.Row.{Row}
+use Rattle.transfers.specs.declared.internal.found.Found.{Found}
+use Rattle.transfers.specs.declared.internal.calls.Way.{Way}
+use Rattle.transfers.specs.declared.internal.calls.Way.the-variants as way
 use Rattle.transfers.specs.Listing.{Listing, nth, share, bothComponents, square, transfersOf}
 use Rattle.transfers.specs.Code.{allGood}
 
--- a record of row i, from 0
-pub record InRow (n i : ℕ) (t : Transfer) : Type 0 where
+-- ---- the hull of shares: what holds them all
+pub record Holds (h v : Interval) : Type 0 where
+  pub low : h .lo ≤ℤ v .lo
+  pub high : v .hi ≤ℤ h .hi
+
+unfoldable pub hull : Interval → Interval → Interval
+hull h v = interval.ends (minimum (h .lo) (v .lo)) (maximum (h .hi) (v .hi))
+
+pub record InRange (h : Interval) : Type 0 where
+  pub low : interval.lowest ≤ℤ h .lo
+  pub high : h .hi ≤ℤ interval.highest
+
+-- at most 2^27 off 0: 32 products of such shares with components fit 64 bits
+pub record Short (h : Interval) : Type 0 where
+  pub low : negℤ (pos 134_217_728) ≤ℤ h .lo
+  pub high : h .hi ≤ℤ pos 134_217_728
+
+-- ---- rows
+-- v is a number above the first ones, so many
+pub record Later (first : ℕ) (v : ℤ) : Type 0 where
+  pub is : v ≡ pos (natAbs v)
+  pub past : first < natAbs v
+  pub few : natAbs v ≤ 9_223_372_036_854_775_807
+
+-- a record of row i, from 0, with its share in h
+pub record InRow (n i : ℕ) (h : Interval) (t : Transfer) : Type 0 where
   pub components : bothComponents n t ≡ true
   pub row : t .receiver ≡ pos (i + 1)
-  pub modest : Modest (share t)
+  pub order : t .lo ≤ℤ t .hi
+  pub held : Holds h (share t)
 
--- row i has the records from k on and before e, and those from k on are good if those from e on are good for later rows
-pub record RowOf (n : ℕ) (ts : List Transfer) (i k e : ℕ) : Type 0 where
+-- row i has the records from k on and before e, with their shares in h; if h is in the range, those from k on are good if those from e on are good for later rows
+pub record RowOf (n : ℕ) (ts : List Transfer) (i : ℕ) (h : Interval) (k e : ℕ) : Type 0 where
   pub forward : k ≤ e
   pub within : e ≤ length ts
   pub few : e ≤ k + n
-  pub each : (j : ℕ) → k ≤ j → j < e → InRow n i (nth ts j)
-  pub good : allGood n ts (length ts - e) e ((i + 1) * n) ≡ true → allGood n ts (length ts - k) k (i * n) ≡ true
+  pub each : (j : ℕ) → k ≤ j → j < e → InRow n i h (nth ts j)
+  pub good : InRange h → allGood n ts (length ts - e) e ((i + 1) * n) ≡ true → allGood n ts (length ts - k) k (i * n) ≡ true
 
--- an end that is not past the list is that of the row
-pub record RowEnd (n : ℕ) (ts : List Transfer) (i k e : ℕ) : Type 0 where
-  pub is : e ≤ length ts → RowOf n ts i k e
+-- an end that is not past the list is that of the row, if the row's columns are in the square
+pub record RowEnd (n : ℕ) (ts : List Transfer) (i : ℕ) (h : Interval) (k : ℕ) (r : Row) : Type 0 where
+  pub held : Holds (r .hull) h
+  pub is : r .end ≤ length ts → r .columns ≤ n → RowOf n ts i (r .hull) k (r .end)
 
 abbrev pub end : List ℕ → ℕ → ℕ
 end ends i = getD ends i 0
 
-pub record Rows (n : ℕ) (ts : List Transfer) (ends : List ℕ) : Type 0 where
+pub record Rows (n : ℕ) (ts : List Transfer) (ends : List ℕ) (h : Interval) : Type 0 where
   pub first : end ends 0 ≡ 0
   pub last : end ends n ≡ length ts
-  pub row : (i : ℕ) → i < n → RowOf n ts i (end ends i) (end ends (i + 1))
+  pub row : (i : ℕ) → i < n → RowOf n ts i h (end ends i) (end ends (i + 1))
 
-pub record InRows (n : ℕ) (rs : List (List ℤ)) (ends : List ℕ) : Type 0 where
+pub record AllRows (n : ℕ) (ts : List Transfer) (ends : List ℕ) (f : Found) : Type 0 where
+  pub is : f .whole ≡ true → Rows n ts ends (f .hull) × Short (f .hull)
+
+-- rows whose sums fit one word; if above is true, no share is below 0
+pub record OneWord (n : ℕ) (ts : List Transfer) (ends : List ℕ) (above : Bool) : Type 0 where
+  pub hull : Interval
+  pub rows : Rows n ts ends hull
+  pub short : Short hull
+  pub shares : above ≡ true → pos 0 ≤ℤ hull .lo
+
+pub record InRows (n : ℕ) (rs : List (List ℤ)) (ends : List ℕ) (above : Bool) : Type 0 where
   pub few : n ≤ 32
   pub short : length rs ≤ 1_024
   pub room : length ends ≡ 33
-  pub rows : Rows n (transfersOf rs) ends
+  pub sums : OneWord n (transfersOf rs) ends above
 
 -- the list in rows, and the square, right side and box that the passes are about
-pub record Listed (n : ℕ) (rs : List (List ℤ)) (ends : List ℕ) (r x : List ℤ) : Type 0 where
-  pub listed : InRows n rs ends
+pub record Listed (n : ℕ) (rs : List (List ℤ)) (ends : List ℕ) (above : Bool) (r x : List ℤ) : Type 0 where
+  pub listed : InRows n rs ends above
   pub ready : Ready n (square n (transfersOf rs)) r x
-  pub above : NoneBelow x
+  pub box : above ≡ true → NoneBelow x
 
 -- a list that passed all tests of intervals and stands in rows
-pub record Plain (s : Listing) (X : List ℤ) (ends : List ℕ) : Type 0 where
+pub record Plain (s : Listing) (X : List ℤ) (ends : List ℕ) (above : Bool) : Type 0 where
   pub right : Sound (s .right)
   pub box : Sound X
-  pub above : NoneBelow X
-  pub rows : Rows (s .size) (s .transfers) ends
+  pub sums : OneWord (s .size) (s .transfers) ends above
+  pub components : above ≡ true → NoneBelow X
+
+abbrev pub Chosen : (s : Listing) (X : List ℤ) (ends : List ℕ) → Way → Type 0
+Chosen s X ends (way.Rows above) = Plain s X ends above
+Chosen s X ends way.Square = Unit {0}
 
 -- acc and the products of the records k, k + 1, .., d of them, each with the component of its giver, unrounded
 unfoldable pub summed : List Transfer → List ℤ → (d k : ℕ) → Interval → Interval

@@ -1,4 +1,5 @@
 pub mod calls;
+pub mod found;
 pub mod gather;
 pub mod gathered;
 pub mod listed;

@@ -1,5 +1,5 @@
 // The calls over records as four numbers each.
-use crate::internal::listed::find_rows;
+use crate::internal::found::find_rows;
 use crate::internal::passes;
 use crate::internal::square::enter;
 use crate::internal::tests::sizes;
@@ -7,6 +7,7 @@ use elimination::internal::solve::solve_formed;
 use inputs::Test;
 use inputs::internal::copy::fill;
 use inputs::internal::intervals;
+use interval::Interval;
 use outcome::Outcome;
 use rows::internal::word::all_above;
 use sweep::Swept;
@@ -17,14 +18,17 @@ ghost use mathlib.Core.Bool.{true};
 ghost use Prim.Native.Nat.{_*_, _≤_};
 ghost use lib.IntN.{pos};
 ghost use lib.ListN.{length, replicate, getD};
+ghost use lib.Signed.{_≤ℤ_};
 ghost use Rattle.outcome.specs.Run.{returned};
+ghost use Rattle.inputs.specs.Code.{Sound};
 ghost use Rattle.inputs.specs.declared.Test.the-variants.{Pass};
+ghost use Rattle.rows.specs.Word.{NoneBelow};
 ghost use Rattle.sweep.specs.Call.{allowance};
 ghost use Rattle.sweep.specs.Calls.{sweepCall, symmetricCall};
 ghost use Rattle.transfers.specs.Listing.{listing, sizes, transfersOf};
 ghost use Rattle.transfers.specs.Call.{overList, callList};
 ghost use Rattle.transfers.specs.Code.{listOver};
-ghost use Rattle.transfers.specs.Rows.{Plain};
+ghost use Rattle.transfers.specs.Rows.{Chosen};
 
 // Elimination after tests 1 and 2, in a working copy of noughts.
 fn eliminate_in(n: usize, rs: &[[i64; 4]], t: &mut [i64], b: &[i64], bounds: &mut [i64]) -> Outcome
@@ -101,27 +105,46 @@ fn sweep_in(
     run(n, halves, square, b, bounds, allowed)
 }
 
-// Whether all tests of intervals pass, no share is more than modest and no component below 0; then ends has where the rows of the list end.
-fn is_plain(n: usize, rs: &[[i64; 4]], b: &[i64], bounds: &[i64], ends: &mut [usize]) -> bool
+// Over what sweeps go: the rows of the list, where above says that no share and no component is below 0; or its square.
+enum Way {
+    Rows(bool),
+    Square,
+}
+
+// Whether no share with this hull is below 0, and no component.
+fn are_above(h: Interval, x: &[i64], n: usize) -> bool
+    requires { ⌜ (length (now x) ≡ 2 * n) × (n ≤ 32) × Sound (now x) ⌝ }
+    ensures { λ r. ⌜ (r ≡ true → (pos 0 ≤ℤ h .lo) × NoneBelow (now (x .entry))) ⌝ }
+{
+    if h.lo < 0 {
+        return false;
+    }
+    all_above(x, n)
+}
+
+// The rows, if all tests of intervals pass and sums fit one word; then ends has where they end.
+fn choose(n: usize, rs: &[[i64; 4]], b: &[i64], bounds: &[i64], ends: &mut [usize]) -> Way
     requires { ⌜ sizes (listing n (transfersOf (now rs)) (now b)) (length (now bounds)) ≡ Pass ⌝ }
     requires { ⌜ (length (now ends) ≡ 33) × (getD (now ends) 0 0 ≡ 0) ⌝ }
-    ensures { λ r. ⌜ (r ≡ true → Plain (listing n (transfersOf (now (rs .entry))) (now (b .entry))) (now (bounds .entry)) (now (ends .exit))) ⌝ }
+    ensures { λ w. ⌜ Chosen (listing n (transfersOf (now (rs .entry))) (now (b .entry))) (now (bounds .entry)) (now (ends .exit)) w ⌝ }
 {
     let r = intervals(b, n, 0);
     if let Test::Fail(_) = r {
-        return false;
+        return Way::Square;
     }
     let x = intervals(bounds, n, 0);
     if let Test::Fail(_) = x {
-        return false;
+        return Way::Square;
     }
-    if !all_above(bounds, n) {
-        return false;
+    let f = find_rows(n, rs, ends);
+    let h = f.hull;
+    if !f.whole {
+        return Way::Square;
     }
-    find_rows(n, rs, ends)
+    Way::Rows(are_above(h, bounds, n))
 }
 
-// Sweeps after tests 1, 2 and 4: over the rows of a plain list, and over the square of any other.
+// Sweeps after tests 1, 2 and 4.
 fn sweep_sized(
     n: usize,
     halves: usize,
@@ -137,8 +160,9 @@ fn sweep_sized(
         ⌝ }
 {
     let mut ends = [0usize; 33];
-    if is_plain(n, rs, b, bounds, &mut ends) {
-        return passes::run(n, halves, rs, &ends, b, bounds, allowed);
+    let w = choose(n, rs, b, bounds, &mut ends);
+    if let Way::Rows(above) = w {
+        return passes::run(n, halves, above, rs, &ends, b, bounds, allowed);
     }
     let mut square = [0i64; 2048];
     sweep_in(

@@ -10,6 +10,7 @@ use sweep::internal::pass::OnePass;
 use sweep::internal::pass::moved;
 use sweep::internal::pass::turn;
 ghost use mathlib.Core.Path.{_≡_};
+ghost use mathlib.Core.Bool.{true};
 ghost use Prim.Native.Nat.{_*_, _≤_};
 ghost use lib.ListN.{length};
 ghost use Rattle.inputs.specs.System.{system};
@@ -23,21 +24,22 @@ ghost use Rattle.transfers.specs.Rows.{Listed};
 fn pass_once(
     n: usize,
     halves: usize,
+    above: bool,
     rs: &[[i64; 4]],
     ends: &[usize],
     r: &[i64],
     x: &mut [i64],
 ) -> OnePass
-    requires { ⌜ Listed n (now rs) (now ends) (now r) (now x) × (halves ≤ 2) ⌝ }
+    requires { ⌜ Listed n (now rs) (now ends) above (now r) (now x) × (halves ≤ 2) ⌝ }
     ensures passed { λ p. ⌜
         Passed (pass halves (system n (square n (transfersOf (now (rs .entry)))) (now (r .entry))) (now (x .entry))) n (now (x .entry)) p (now (x .exit))
         ⌝ }
-    ensures above { λ _. ⌜ NoneBelow (now (x .exit)) ⌝ }
+    ensures above { λ _. ⌜ (above ≡ true → NoneBelow (now (x .exit))) ⌝ }
 {
     let mut changed = false;
     for k in 0..halves * n {
         let i = turn(n, k);
-        let v = component(n, i, rs, ends, r, x);
+        let v = component(n, i, above, rs, ends, r, x);
         if is_empty(v) {
             return OnePass::Empty(i + 1);
         }
@@ -52,13 +54,14 @@ fn pass_once(
 fn repeat(
     n: usize,
     halves: usize,
+    above: bool,
     rs: &[[i64; 4]],
     ends: &[usize],
     r: &[i64],
     x: &mut [i64],
     allowed: usize,
 ) -> Swept
-    requires { ⌜ Listed n (now rs) (now ends) (now r) (now x) × (halves ≤ 2) ⌝ }
+    requires { ⌜ Listed n (now rs) (now ends) above (now r) (now x) × (halves ≤ 2) ⌝ }
     requires { ⌜ allowed ≤ 10_000 ⌝ }
     ensures { λ s. ⌜
         Logged (sweeps n (pass halves (system n (square n (transfersOf (now (rs .entry)))) (now (r .entry)))) allowed (now (x .entry)))
@@ -67,7 +70,7 @@ fn repeat(
 {
     let mut count: usize = 0;
     while count < allowed {
-        match pass_once(n, halves, rs, ends, r, x) {
+        match pass_once(n, halves, above, rs, ends, r, x) {
             OnePass::Empty(i) => {
                 return Swept {
                     outcome: Outcome::Empty(i),
@@ -95,6 +98,7 @@ fn repeat(
 fn tighten(
     n: usize,
     halves: usize,
+    above: bool,
     rs: &[[i64; 4]],
     ends: &[usize],
     r: &[i64],
@@ -102,7 +106,7 @@ fn tighten(
     bounds: &mut [i64],
     allowed: usize,
 ) -> Swept
-    requires { ⌜ Listed n (now rs) (now ends) (now r) (now bounds) × (allowed ≤ 10_000) ⌝ }
+    requires { ⌜ Listed n (now rs) (now ends) above (now r) (now bounds) × (allowed ≤ 10_000) ⌝ }
     requires { ⌜ (length (now x) ≡ 2 * n) × (halves ≤ 2) ⌝ }
     ensures { λ s. ⌜
         Ran (sweeps n (pass halves (system n (square n (transfersOf (now (rs .entry)))) (now (r .entry)))) allowed (now (bounds .entry)))
@@ -110,7 +114,7 @@ fn tighten(
         ⌝ }
 {
     copy_out(x, bounds, 0);
-    let s = repeat(n, halves, rs, ends, r, x, allowed);
+    let s = repeat(n, halves, above, rs, ends, r, x, allowed);
     let o = s.outcome;
     if o.number() != 7 {
         copy_out(bounds, x, 0);
@@ -122,13 +126,14 @@ fn tighten(
 pub fn run(
     n: usize,
     halves: usize,
+    above: bool,
     rs: &[[i64; 4]],
     ends: &[usize],
     r: &[i64],
     bounds: &mut [i64],
     allowed: usize,
 ) -> Swept
-    requires { ⌜ Listed n (now rs) (now ends) (now r) (now bounds) × (allowed ≤ 10_000) ⌝ }
+    requires { ⌜ Listed n (now rs) (now ends) above (now r) (now bounds) × (allowed ≤ 10_000) ⌝ }
     requires { ⌜ halves ≤ 2 ⌝ }
     ensures { λ s. ⌜
         Ran (sweeps n (pass halves (system n (square n (transfersOf (now (rs .entry)))) (now (r .entry)))) allowed (now (bounds .entry)))
@@ -136,5 +141,15 @@ pub fn run(
         ⌝ }
 {
     let mut x = [0i64; 64];
-    tighten(n, halves, rs, ends, r, &mut x[..2 * n], bounds, allowed)
+    tighten(
+        n,
+        halves,
+        above,
+        rs,
+        ends,
+        r,
+        &mut x[..2 * n],
+        bounds,
+        allowed,
+    )
 }

@@ -1,6 +1,5 @@
 use borrow.Author.Needs.{needs}
-use mathlib.Core.Bool.{true}
-use mathlib.Core.Path.{_≡_, sym}
+use mathlib.Core.Path.{_≡_, sym, subst}
 use Prim.Native.Nat.{_*_, _≤_}
 use native.Mathlib.Omega.{arith}
 use denote.Ref.{now}
@@ -9,11 +8,13 @@ use Rattle.inputs.specs.declared.Test.the-variants.{Pass}
 use Rattle.inputs.proofs.Tests.{square}
 use Rattle.sweep.specs.Call.{tests}
 use Rattle.sweep.proofs.Tests.{ready, allowed-few}
+use Rattle.transfers.specs.declared.internal.calls.Way.{Way}
 use Rattle.transfers.specs.Listing.{Listing, listing, squared, transfersOf}
-use Rattle.transfers.specs.Rows.{Plain}
+use Rattle.transfers.specs.Rows.{Plain, Chosen}
 use Rattle.transfers.proofs.Records.{length-transfers}
 use Rattle.transfers.proofs.Sizes.{fitting}
 use Rattle.transfers.proofs.Square.{take-noughts, sound-proper}
+use Rattle.transfers.proofs.Short.{short-range}
 use Rattle.transfers.proofs.Rows.{rows-judged}
 use Rattle.transfers.proofs.Call.{over-ready, over-runs}
 use Rattle.transfers.proofs.internal.calls.sweep_sized.Statement.{statement}
@@ -26,60 +27,69 @@ lent c = listing (c .args .n) (transfersOf (now (c .args .rs))) (now (c .args .b
 room : (c : tie.Start) → 2 * (c .args .n * c .args .n) ≤ 2048
 room c = omega (arith, square _ (fitting _ _ (c .pre .0) .few))
 
-slice-aggregate-is-plain : tie.Need-slice-aggregate-is-plain
-slice-aggregate-is-plain c = search needs
+slice-aggregate-choose : tie.Need-slice-aggregate-choose
+slice-aggregate-choose c = search needs
 
-is-plain-requires : tie.Need-is-plain-requires
-is-plain-requires c κs = search needs
+choose-requires : tie.Need-choose-requires
+choose-requires c κs = search needs
+
+enum-known-w : tie.Need-enum-known-w
+enum-known-w c = search needs
 
 slice-aggregate-run : tie.Need-slice-aggregate-run
 slice-aggregate-run c = search needs
 
--- a plain list can be swept in rows
-plain : (c : tie.After-is-plain) → c .is-plain .result ≡ true → let s = c .before .before .before in Plain (lent s) (now (s .args .bounds)) (c .is-plain .last .1 .1 .1 .1 .0)
-plain c e = c .is-plain .ensures e
+-- a list that is swept in rows
+plain : (c : tie.After-w) → let h = c .before .before .before in let s = h .before .before .before in Plain (lent s) (now (s .args .bounds)) (h .choose .last .1 .1 .1 .1 .0) (c .w .given .0 .0)
+plain c =
+    let h = c .before .before .before in
+    let s = h .before .before .before in
+    subst (λ (w : Way). Chosen (lent s) (now (s .args .bounds)) (h .choose .last .1 .1 .1 .1 .0) w) (c .w .given .1) (h .choose .ensures)
 
-tested : (c : tie.After-is-plain) → c .is-plain .result ≡ true → let s = c .before .before .before in tests (squared (lent s)) (s .args .allowed) (now (s .args .bounds)) ≡ Pass
-tested c e =
-    let s = c .before .before .before in
-    let p = plain c e in
-    over-ready 0 (lent s) (s .args .allowed) (now (s .args .bounds)) (s .pre .0) (s .pre .1) (rows-judged _ _ _ (p .rows)) (sound-proper _ _ _ (p .right)) (sound-proper _ _ _ (p .box))
+tested : (c : tie.After-w) → let s = c .before .before .before .before .before .before in tests (squared (lent s)) (s .args .allowed) (now (s .args .bounds)) ≡ Pass
+tested c =
+    let s = c .before .before .before .before .before .before in
+    let p = plain c in
+    over-ready 0 (lent s) (s .args .allowed) (now (s .args .bounds)) (s .pre .0) (s .pre .1) (rows-judged _ _ _ (short-range (p .sums .short)) (p .sums .rows)) (sound-proper _ _ _ (p .right)) (sound-proper _ _ _ (p .box))
 
 run-requires : tie.Need-run-requires
 run-requires c κs =
-    let i = c .before .before .before .before in
-    let s = i .before .before .before in
-    let e = c .before .before .if1 .taken in
-    let p = plain i e in
+    let w = c .before .before .before in
+    let h = w .before .before .before in
+    let s = h .before .before .before in
+    let p = plain w in
     let f = fitting _ _ (s .pre .0) in
-    let t = tested i e in
-    ((record { listed = record { few = f .few; short = rw (length-transfers _) at (f .short); room = i .is-plain .kept .1 .1 .1 .1 .0; rows = p .rows }; ready = ready (squared (lent s)) _ _ t; above = p .above }, allowed-few (squared (lent s)) _ _ t), s .pre .2)
+    let t = tested w in
+    ((record { listed = record { few = f .few; short = rw (length-transfers _) at (f .short); room = h .choose .kept .1 .1 .1 .1 .0; sums = p .sums }; ready = ready (squared (lent s)) _ _ t; box = p .components }, allowed-few (squared (lent s)) _ _ t), s .pre .2)
 
 same-length : tie.Need-same-length
 same-length c = search needs
 
 returns : tie.Need-returns
 returns c =
-    let i = c .before .before .before .before .before .before in
-    let s = i .before .before .before in
-    let p = plain i (c .before .before .before .before .if1 .taken) in
-    over-runs _ _ _ _ (s .pre .0) (s .pre .1) (rows-judged _ _ _ (p .rows)) (sound-proper _ _ _ (p .right)) (sound-proper _ _ _ (p .box)) (c .before .run .ensures)
+    let w = c .before .before .before .before .before in
+    let s = w .before .before .before .before .before .before in
+    let p = plain w in
+    over-runs _ _ _ _ (s .pre .0) (s .pre .1) (rows-judged _ _ _ (short-range (p .sums .short)) (p .sums .rows)) (sound-proper _ _ _ (p .right)) (sound-proper _ _ _ (p .box)) (c .before .run .ensures)
+
+enum-told : tie.Need-enum-told
+enum-told c = search needs
 
 mul-square : tie.Need-mul-square
-mul-square c = record { fits = omega (arith, room (c .before .before .before .before .before)) }
+mul-square c = record { fits = omega (arith, room (c .before .before .before .before .before .before)) }
 
 mul-square-2 : tie.Need-mul-square-2
-mul-square-2 c = record { fits = omega (arith, room (c .before .before .before .before .before)) }
+mul-square-2 c = record { fits = omega (arith, room (c .before .before .before .before .before .before)) }
 
 array-borrow-prefix-square : tie.Need-array-borrow-prefix-square
-array-borrow-prefix-square c = room (c .before .before .before .before .before)
+array-borrow-prefix-square c = room (c .before .before .before .before .before .before)
 
 slice-aggregate-sweep-in : tie.Need-slice-aggregate-sweep-in
-slice-aggregate-sweep-in c = sym (length-take-le _ _ (room (c .before .before .before .before .before .before)))
+slice-aggregate-sweep-in c = sym (length-take-le _ _ (room (c .before .before .before .before .before .before .before)))
 
 sweep-in-requires : tie.Need-sweep-in-requires
 sweep-in-requires c κs =
-    let s = c .before .before .before .before .before .before .before in
+    let s = c .before .before .before .before .before .before .before .before in
     ((s .pre .0, take-noughts _ 2048 (room s)), (s .pre .1, s .pre .2))
 
 same-length-2 : tie.Need-same-length-2
@@ -92,12 +102,14 @@ pub sweep-sized-spec : {M : Type 1} → statement M
 sweep-sized-spec =
     tie.close
     (tie.spec
-    slice-aggregate-is-plain
-    is-plain-requires
+    slice-aggregate-choose
+    choose-requires
+    enum-known-w
     slice-aggregate-run
     run-requires
     same-length
     returns
+    enum-told
     mul-square
     mul-square-2
     array-borrow-prefix-square

@@ -7,12 +7,13 @@ use Rattle.interval.specs.Interval.{scale, rounded, intersection}
 use Rattle.rows.specs.Sum.{once}
 use Rattle.sweep.proofs.Pass.{component-is, component-fits}
 use Rattle.transfers.specs.Listing.{square, transfersOf}
+use Rattle.transfers.proofs.Short.{short-range}
 use Rattle.transfers.proofs.Rows.{row-listed}
 use Rattle.transfers.proofs.internal.listed.component.Statement.{statement}
 use Rattle.transfers.proofs.internal.listed.component.Tie as tie
 
 row-sum-requires : tie.Need-row-sum-requires
-row-sum-requires c κs = let s = c .before in ((s .pre .0 .listed, s .pre .1), (s .pre .0 .ready .box, s .pre .0 .ready .box-sound, s .pre .0 .above))
+row-sum-requires c κs = let s = c .before in ((s .pre .0 .listed, s .pre .1), (s .pre .0 .ready .box, s .pre .0 .ready .box-sound, s .pre .0 .box))
 
 rounded-requires : tie.Need-rounded-requires
 rounded-requires c κs = search needs
@@ -28,7 +29,7 @@ row-is : (c : tie.After-rounded) → let a = c .before .before .before .args in 
 unfolding once
 row-is c =
     let s = c .before .before .before in
-    c .rounded .ensures ∙ ap (rounded scale) (c .before .row-sum .ensures .0 ∙ sym (row-listed _ _ _ (s .pre .0 .listed .rows) _ _ (s .pre .1)))
+    c .rounded .ensures ∙ ap (rounded scale) (c .before .row-sum .ensures ∙ sym (row-listed _ _ _ (short-range (s .pre .0 .listed .sums .short)) (s .pre .0 .listed .sums .rows) _ _ (s .pre .1)))
 
 sum-requires : tie.Need-sum-requires
 sum-requires c κs =

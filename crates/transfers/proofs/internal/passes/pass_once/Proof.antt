@@ -11,10 +11,10 @@ use Rattle.transfers.proofs.internal.passes.pass_once.Statement.{statem
 use Rattle.transfers.proofs.internal.passes.pass_once.Tie as tie
 
 abbrev Inv-loop : tie.InvT-loop
-Inv-loop n halves rs ends r x₀ changed₀ k₀ k-end x changed k = (k ≤ halves * n) × Halfway n (halves * n) k (square n (transfersOf rs)) r x₀ x changed
+Inv-loop n halves above rs ends r x₀ changed₀ k₀ k-end x changed k = (k ≤ halves * n) × Halfway n (halves * n) k (square n (transfersOf rs)) r x₀ x changed
 
 abbrev μ-loop : tie.MeasureT-loop
-μ-loop n halves rs ends r x₀ changed₀ k₀ k-end x changed k = halves * n - k
+μ-loop n halves above rs ends r x₀ changed₀ k₀ k-end x changed k = halves * n - k
 
 mul-k-end : tie.Need-mul-k-end Inv-loop μ-loop
 mul-k-end c = omega (arith, few-turns (c .before .args .n) _ (c .before .pre .1), c .before .pre .0 .listed .few)
@@ -41,8 +41,8 @@ component-requires c κs = let l = c .before .before .before in (halfway-listed 
 is-empty-requires : tie.Need-is-empty-requires Inv-loop μ-loop
 is-empty-requires c κs = search needs
 
-add-t17 : tie.Need-add-t17 Inv-loop μ-loop
-add-t17 c = let t = c .before .before .before .before in omega (arith, in-box t, t .before .before .loop .inv .1 .ready .few)
+add-t18 : tie.Need-add-t18 Inv-loop μ-loop
+add-t18 c = let t = c .before .before .before .before in omega (arith, in-box t, t .before .before .loop .inv .1 .ready .few)
 
 same-length : tie.Need-same-length Inv-loop μ-loop
 same-length c = let l = c .before .before .before .before .before .before in l .loop .inv .1 .ready .box ∙ sym (l .before .before .pre .0 .ready .box)
@@ -111,7 +111,7 @@ pass-once-spec =
     turn-requires
     component-requires
     is-empty-requires
-    add-t17
+    add-t18
     same-length
     returns
     read-requires

@@ -15,11 +15,11 @@ use Rattle.transfers.proofs.internal.passes.repeat.Statement.{statement
 use Rattle.transfers.proofs.internal.passes.repeat.Tie as tie
 
 abbrev Inv-loop : tie.InvT-loop
-Inv-loop n halves rs ends r x₀ allowed count₀ x count =
-    (count ≤ allowed) × Listed n rs ends r x × Since (sweeps n (pass halves (system n (square n (transfersOf rs)) r)) allowed x₀) x₀ count (sweeps n (pass halves (system n (square n (transfersOf rs)) r)) (allowed - count) x) x
+Inv-loop n halves above rs ends r x₀ allowed count₀ x count =
+    (count ≤ allowed) × Listed n rs ends above r x × Since (sweeps n (pass halves (system n (square n (transfersOf rs)) r)) allowed x₀) x₀ count (sweeps n (pass halves (system n (square n (transfersOf rs)) r)) (allowed - count) x) x
 
 abbrev μ-loop : tie.MeasureT-loop
-μ-loop n halves rs ends r x₀ allowed count₀ x count = allowed - count
+μ-loop n halves above rs ends r x₀ allowed count₀ x count = allowed - count
 
 loop-holds : tie.Need-loop-holds Inv-loop μ-loop
 loop-holds c = (omega arith, c .before .pre .0 .0, rw sub-zero (since-start _ _))
@@ -34,7 +34,7 @@ same-length : tie.Need-same-length Inv-loop μ-loop
 same-length c =
     let u = c .before .before .before .before in
     let l = u .before .before .before in
-    u .pass-once .kept .1 .1 .1 .1 .1 .0 ∙ l .loop .inv .1 .ready .box ∙ sym (l .before .before .pre .0 .0 .ready .box)
+    u .pass-once .kept .1 .1 .1 .1 .1 .1 .0 ∙ l .loop .inv .1 .ready .box ∙ sym (l .before .before .pre .0 .0 .ready .box)
 
 returns : tie.Need-returns Inv-loop μ-loop
 returns c =
@@ -52,7 +52,7 @@ same-length-2 : tie.Need-same-length-2 Inv-loop μ-loop
 same-length-2 c =
     let u = c .before .before .before .before .before in
     let l = u .before .before .before in
-    u .pass-once .kept .1 .1 .1 .1 .1 .0 ∙ l .loop .inv .1 .ready .box ∙ sym (l .before .before .pre .0 .0 .ready .box)
+    u .pass-once .kept .1 .1 .1 .1 .1 .1 .0 ∙ l .loop .inv .1 .ready .box ∙ sym (l .before .before .pre .0 .0 .ready .box)
 
 returns-2 : tie.Need-returns-2 Inv-loop μ-loop
 returns-2 c =
@@ -75,7 +75,7 @@ loop-again c =
     let p = u .pass-once .ensures .0 in
     let g = c .before .before .changed .given .1 in (
       omega arith,
-      listed-after (l .loop .inv .1) (u .pass-once .kept .1 .1 .1 .1 .1 .0) (p .sound) (u .pass-once .ensures .1),
+      listed-after (l .loop .inv .1) (u .pass-once .kept .1 .1 .1 .1 .1 .1 .0) (p .sound) (u .pass-once .ensures .1),
       since-more (l .loop .inv .2) (sweeps-go _ _ _ _ _ h (was-whole p g) (sym (was-flagged p g) ∙ not-false _ (c .if1 .left))),
     )
 

@@ -27,7 +27,7 @@ copy-out-requires c κs = omega (arith, as-long (c .before .before .before))
 repeat-requires : tie.Need-repeat-requires
 repeat-requires c κs =
     let s = c .before .before .before .before .before .before in (
-      (subst (λ (y : List ℤ). Listed (s .args .n) (now (s .args .rs)) (now (s .args .ends)) (now (s .args .r)) y) (sym (copied (c .before .before))) (s .pre .0 .0), s .pre .1 .1),
+      (subst (λ (y : List ℤ). Listed (s .args .n) (now (s .args .rs)) (now (s .args .ends)) (s .args .above) (now (s .args .r)) y) (sym (copied (c .before .before))) (s .pre .0 .0), s .pre .1 .1),
       s .pre .0 .1,
     )
 
@@ -37,12 +37,12 @@ start c = c .before .before .before .before .before .before .before
 
 logged : (c : tie.After-repeat) →
     let a = start c .args in
-    Logged (sweeps (a .n) (pass (a .halves) (system (a .n) (square (a .n) (transfersOf (now (a .rs)))) (now (a .r)))) (a .allowed) (now (a .bounds))) (now (a .bounds)) (c .repeat .result) (c .repeat .last .1 .1 .1 .1 .1 .0)
+    Logged (sweeps (a .n) (pass (a .halves) (system (a .n) (square (a .n) (transfersOf (now (a .rs)))) (now (a .r)))) (a .allowed) (now (a .bounds))) (now (a .bounds)) (c .repeat .result) (c .repeat .last .1 .1 .1 .1 .1 .1 .0)
 logged c = logged-from _ _ _ (copied (c .before .before .before)) (c .repeat .ensures)
 
 -- the box after the sweeps is as long as the lent one
-left-long : (c : tie.After-repeat) → length (c .repeat .last .1 .1 .1 .1 .1 .0) ≡ length (now (start c .args .bounds))
-left-long c = c .repeat .kept .1 .1 .1 .1 .1 .0 ∙ c .before .before .before .copy-out .kept .0 ∙ as-long (start c)
+left-long : (c : tie.After-repeat) → length (c .repeat .last .1 .1 .1 .1 .1 .1 .0) ≡ length (now (start c .args .bounds))
+left-long c = c .repeat .kept .1 .1 .1 .1 .1 .1 .0 ∙ c .before .before .before .copy-out .kept .0 ∙ as-long (start c)
 
 number-requires : tie.Need-number-requires
 number-requires c κs = search needs
@@ -61,7 +61,7 @@ returns c =
     let n = c .before .before .before .before .before in
     let p = n .before .before in
     ran-written (logged p) (λ e. c .before .before .before .before .if1 .taken (n .number .ensures ∙ e))
-    (copied-all (now (start p .args .bounds)) (p .repeat .last .1 .1 .1 .1 .1 .0) (c .before .copy-out2 .ensures) (sym (left-long p)))
+    (copied-all (now (start p .args .bounds)) (p .repeat .last .1 .1 .1 .1 .1 .1 .0) (c .before .copy-out2 .ensures) (sym (left-long p)))
 
 same-length-3 : tie.Need-same-length-3
 same-length-3 c = search needs

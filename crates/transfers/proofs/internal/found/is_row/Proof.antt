@@ -7,8 +7,8 @@ use lib.IntN.{pos, _+ℤ_}
 use mir.Syntax.{w64}
 use mir.Val.{SFits, toZ, ofZ}
 use mir.ValLaws.{toZ-ofZ, toZ-pos}
-use Rattle.transfers.proofs.internal.listed.is_row.Statement.{statement}
-use Rattle.transfers.proofs.internal.listed.is_row.Tie as tie
+use Rattle.transfers.proofs.internal.found.is_row.Statement.{statement}
+use Rattle.transfers.proofs.internal.found.is_row.Tie as tie
 
 held : (c : tie.Start) → toZ w64 (c .args .i) ≡ pos (c .args .i)
 held c = toZ-pos w64 (c .args .i) (omega (arith, c .pre))

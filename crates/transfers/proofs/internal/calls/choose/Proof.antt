@@ -1,17 +1,16 @@
+use mathlib.Core.Path.{sym, _∙_}
+use native.Mathlib.Omega.{arith}
 use borrow.Author.Needs.{needs}
 use borrow.Author.Tests.{not-false}
-use mathlib.Core.Path.{sym, subst, _∙_}
-use native.Mathlib.Omega.{arith}
 use denote.Ref.{now}
-use lib.Dec.{T}
 use lib.ListN.{length}
 use Rattle.inputs.specs.Code.{Sound}
 use Rattle.inputs.proofs.Place.{proper-sound}
 use Rattle.transfers.specs.Listing.{Listing, listing, transfersOf}
 use Rattle.transfers.proofs.Records.{length-transfers}
 use Rattle.transfers.proofs.Sizes.{Fitting, fitting}
-use Rattle.transfers.proofs.internal.calls.is_plain.Statement.{statement}
-use Rattle.transfers.proofs.internal.calls.is_plain.Tie as tie
+use Rattle.transfers.proofs.internal.calls.choose.Statement.{statement}
+use Rattle.transfers.proofs.internal.calls.choose.Tie as tie
 
 abbrev lent : tie.Start → Listing
 lent c = listing (c .args .n) (transfersOf (now (c .args .rs))) (now (c .args .b))
@@ -28,7 +27,7 @@ enum-told : tie.Need-enum-told
 enum-told c = search needs
 
 returns : tie.Need-returns
-returns c = λ e. absurd (subst T (sym e) tt)
+returns c = search needs
 
 enum-told-2 : tie.Need-enum-told-2
 enum-told-2 c = search needs
@@ -42,7 +41,7 @@ enum-told-3 : tie.Need-enum-told-3
 enum-told-3 c = search needs
 
 returns-2 : tie.Need-returns-2
-returns-2 c = λ e. absurd (subst T (sym e) tt)
+returns-2 c = search needs
 
 enum-told-4 : tie.Need-enum-told-4
 enum-told-4 c = search needs
@@ -54,29 +53,43 @@ right c = proper-sound _ _ _ (fits (c .before .before .before .before) .right) (
 box : (c : tie.After-enum-told4) → Sound (now (c .before .before .before .before .before .before .before .args .bounds))
 box c = proper-sound _ _ _ (fits (c .before .before .before .before .before .before .before) .box) (sym (c .before .before .intervals2 .ensures) ∙ c .enum-told4 .given .1)
 
-all-above-requires : tie.Need-all-above-requires
-all-above-requires c κs =
-    let f = fits (c .before .before .before .before .before .before .before) in
-    (f .box, f .few, box c)
-
-returns-3 : tie.Need-returns-3
-returns-3 c = λ e. absurd (subst T (sym e) tt)
-
 find-rows-requires : tie.Need-find-rows-requires
 find-rows-requires c κs =
-    let s = c .before .before .before .before .before .before .before .before .before .before in
+    let s = c .before .before .before .before .before .before .before .before in
     let f = fits s in
     (f .few, rw (length-transfers _) at (f .short), s .pre .1 .0, s .pre .1 .1)
 
 same-length : tie.Need-same-length
 same-length c = search needs
 
+returns-3 : tie.Need-returns-3
+returns-3 c = search needs
+
+are-above-requires : tie.Need-are-above-requires
+are-above-requires c κs =
+    let t = c .before .before .before .before .before .before .before in
+    let f = fits (t .before .before .before .before .before .before .before) in
+    (f .box, f .few, box t)
+
+same-length-2 : tie.Need-same-length-2
+same-length-2 c = search needs
+
 returns-4 : tie.Need-returns-4
 returns-4 c =
-    λ e. record { right = right (c .before .before .before .before .before .before .before .before .before); box = box (c .before .before .before .before .before .before); above = c .before .before .before .before .before .all-above .ensures (not-false _ (c .before .before .before .before .if1 .left)); rows = c .before .before .find-rows .ensures e }
+    let e = c .before in
+    let r = e .before .before .before .before .before in
+    let t = r .before .before in
+    let w = r .find-rows .ensures .is (not-false _ (e .if1 .left)) in
+    let above = c .are-above .ensures in
+    record {
+      right = right (t .before .before .before);
+      box = box t;
+      sums = record { hull = r .find-rows .result .hull; rows = w .0; short = w .1; shares = λ h. above h .0 };
+      components = λ h. above h .1;
+    }
 
-pub is-plain-spec : {M : Type 1} → statement M
-is-plain-spec =
+pub choose-spec : {M : Type 1} → statement M
+choose-spec =
     tie.close
     (tie.spec
     intervals-requires
@@ -87,8 +100,9 @@ is-plain-spec =
     enum-told-3
     returns-2
     enum-told-4
-    all-above-requires
-    returns-3
     find-rows-requires
     same-length
+    returns-3
+    are-above-requires
+    same-length-2
     returns-4)
