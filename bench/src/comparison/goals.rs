@@ -223,8 +223,13 @@ pub const VATS: &str = "11 at the first, a middle, the last transfer, 1,023";
 /// Where they are for their sequence: the first one never is.
 pub const ORDERS: &str = "12 at the second, a middle, the last transfer, 1,023";
 
-/// How the library sweeps a list: put into the square, or as it is.
-pub const WAYS: [&str; 2] = ["0 or 9 by the square for n", "0 or 9 by rows for n"];
+/// How the library sweeps a list: put into the square, or as it is, with products by sign or
+/// with none below 0.
+pub const WAYS: [&str; 3] = [
+    "0 or 9 by the square for n",
+    "0 or 9 by rows of either sign for n",
+    "0 or 9 by rows not below 0 for n",
+];
 
 /// Of the three calls, which come together.
 pub fn of_transfers() -> Vec<Goal> {

@@ -25,7 +25,7 @@ pub use steps::Pair;
 pub use systems::Elimination;
 pub use tally::{Goal, Tally};
 pub use texts::shown;
-pub use transfers::Transfers;
+pub use transfers::{Transfers, SHORT};
 
 use crate::side::Side;
 

@@ -10,6 +10,10 @@ use crate::reference::{MOST_TRANSFERS, TRANSFER, TRANSFER_ORDER, TRANSFER_VAT};
 use crate::side::{Reference, Side};
 use crate::sweep_list::Solution;
 
+/// A list is swept over its own rows if no end of a share is farther from 0: 32 products of
+/// such shares fit one word together.
+pub const SHORT: i64 = 1 << 27;
+
 /// A call with its list, which is lent in place of the matrix.
 #[derive(Clone, Debug, PartialEq, Eq)]
 pub struct Transfers {
@@ -105,11 +109,15 @@ impl Transfers {
         }
     }
 
-    /// Whether the library sums the rows of the list itself, each in one word.
-    fn is_plain(&self) -> bool {
-        let modest = |ends: &[i64]| 0 <= ends[0] && ends[1] <= 1 << 24;
-        let mut boxes = self.lent.bounds.chunks_exact(2);
-        self.list().all(|transfer| modest(&transfer[2..])) && boxes.all(|ends| 0 <= ends[0])
+    /// How the library sweeps a list that has passed the tests. The start box never makes
+    /// it take the square.
+    fn way(&self) -> &'static str {
+        let shares = || self.list().flat_map(|transfer| &transfer[2..]);
+        if shares().any(|end| end.abs() > SHORT) {
+            return WAYS[0];
+        }
+        let mut all = shares().chain(&self.lent.bounds);
+        WAYS[1 + usize::from(all.all(|end| 0 <= *end))]
     }
 
     /// 0 at the first transfer that can be refused so, 1 between, 2 at the last, 3 at 1,023.
@@ -150,7 +158,7 @@ impl Transfers {
             _ => None,
         };
         let swept = self.call != ListCall::Eliminate && [DONE, SPENT].contains(&number);
-        let way = swept.then(|| WAYS[usize::from(self.is_plain())]);
+        let way = swept.then(|| self.way());
         tally.count(number);
         for (goal, at) in [(goal, at)]
             .into_iter()

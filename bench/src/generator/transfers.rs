@@ -3,8 +3,8 @@
 use super::systems::faults::{set_interval, FAULTY_ENDS};
 use super::{random_cases_up_to, random_lists_up_to, Random};
 use crate::case::Case;
-use crate::comparison::Transfers;
-use crate::reference::{Call, ListCall, Pass, MOST_EQUATIONS, MOST_TRANSFERS, TRANSFER};
+use crate::comparison::{Transfers, SHORT};
+use crate::reference::{Call, ListCall, Pass, LIMIT, MOST_EQUATIONS, MOST_TRANSFERS, TRANSFER};
 use crate::samples::identity;
 use crate::sweep_list::SweepList;
 use std::iter;
@@ -20,12 +20,16 @@ const CALLS: [ListCall; 3] = [
 /// each other's place, and faulty ends.
 const FAULTS: usize = 5;
 
-/// First good lists and every fault, then random lists of at most so many vats without end,
-/// always the same for the same seed.
+/// A share that reaches so far can change by itself how its list is swept.
+const ODD_ENDS: [i64; 7] = [-1, -SHORT, -SHORT - 1, -LIMIT, SHORT, SHORT + 1, LIMIT];
+
+/// First good lists, every fault and odd shares, then random lists of at most so many vats
+/// without end, always the same for the same seed.
 pub fn transfers_up_to(most: usize, seed: u64) -> impl Iterator<Item = Transfers> {
     let whole = (1..=MOST_EQUATIONS).flat_map(|n| [good(n, n * n), good(n, 0)]);
     let edges = whole.chain(long()).chain(faulty());
-    let edges = edges.flat_map(|lent| [raised(lent.clone()), lent]);
+    let odd = (1..=MOST_EQUATIONS).flat_map(|n| ODD_ENDS.map(|end| odd_shares(n, end)));
+    let edges = edges.flat_map(in_each_way).chain(odd.flatten());
     let edges = edges.flat_map(|lent| {
         CALLS.map(|call| Transfers {
             call,
@@ -56,14 +60,45 @@ fn good(n: usize, count: usize) -> Case {
     }
 }
 
-/// With no share below 0: such a list is swept in another way.
-fn raised(mut lent: Case) -> Case {
-    for transfer in lent.matrix.chunks_exact_mut(TRANSFER) {
-        if transfer[2] == -1 {
-            transfer[2] = 0;
+/// With no share below 0, with all of them reaching below 0, and with all too far for a word:
+/// lists are swept in three ways. What is faulty stays so.
+fn in_each_way(lent: Case) -> [Case; 3] {
+    [(0, 0), (-1, 0), (-1, SHORT + 1)].map(|(lower, upper)| {
+        let mut lent = lent.clone();
+        for transfer in lent.matrix.chunks_exact_mut(TRANSFER) {
+            if transfer[2] == -1 {
+                transfer[2] = lower;
+                transfer[3] = transfer[3].max(upper);
+            }
         }
-    }
-    lent
+        lent
+    })
+}
+
+/// Full lists with one odd share, which is the first, the last of a row or the last of all,
+/// beside modest shares or beside the farthest for one word; then with odd shares only. Wide
+/// boxes take the sums as far as can be.
+fn odd_shares(n: usize, end: i64) -> impl Iterator<Item = Case> {
+    let all = n * n;
+    let [modest, wide] = [[0, 90_000_000], [-LIMIT, LIMIT]];
+    let others = [(0, modest), (end.signum() * SHORT, wide)];
+    let single = [0, n - 1, all - 1].map(|place| others.map(|with| (place..place + 1, with)));
+    let every = [wide, [0, LIMIT], [-LIMIT, 0]].map(|ends| (0..all, (0, ends)));
+    let both = single.into_iter().flatten().chain(every);
+    both.map(move |(places, (other, ends))| {
+        let [mut lent, ..] = in_each_way(good(n, all));
+        for (place, transfer) in lent.matrix.chunks_exact_mut(TRANSFER).enumerate() {
+            reach_to(transfer, if places.contains(&place) { end } else { other });
+        }
+        lent.bounds = ends.repeat(n);
+        lent
+    })
+}
+
+/// Makes the share of a transfer reach so far.
+fn reach_to(transfer: &mut [i64], end: i64) {
+    transfer[2] = transfer[2].min(end);
+    transfer[3] = transfer[3].max(end);
 }
 
 /// As many transfers as there may be, and one more.
@@ -135,8 +170,9 @@ fn listed(random: &mut Random, drawn: SweepList) -> Transfers {
     };
     let thin = solution.is_none() && random.once_in(3);
     lent.matrix = list_of(random, &lent.matrix, thin);
-    if solution.is_none() && random.once_in(2) {
-        make_plain(&mut lent);
+    let way = random.below(3);
+    if solution.is_none() && way < 2 {
+        shorten(random, &mut lent, way == 1);
     }
     if random.once_in(3) {
         spoil_some(random, &mut lent);
@@ -149,15 +185,29 @@ fn listed(random: &mut Random, drawn: SweepList) -> Transfers {
     }
 }
 
-/// Shares from 0 to 2^24 units and a box not below 0, as in a cellar.
-fn make_plain(lent: &mut Case) {
+/// So that the list is swept over its rows: with the signs as they are, or with no share below
+/// 0 nor the box, as in a cellar. Often all shares and boxes are as far as can be, and often
+/// one share is odd.
+fn shorten(random: &mut Random, lent: &mut Case, signed: bool) {
+    let far = random.once_in(4);
     for transfer in lent.matrix.chunks_exact_mut(TRANSFER) {
-        let ends = &mut transfer[2..];
-        ends.iter_mut()
-            .for_each(|end| *end = end.saturating_abs().min(1 << 24));
-        ends.sort_unstable();
+        for end in &mut transfer[2..] {
+            let reach = if far { SHORT } else { end.saturating_abs() };
+            let short = end.signum() * reach.min(SHORT);
+            *end = if signed { short } else { short.abs() };
+        }
+        transfer[2..].sort_unstable();
     }
-    lent.bounds.iter_mut().for_each(|end| *end = (*end).max(0));
+    for end in &mut lent.bounds {
+        let wide = if far { end.signum() * LIMIT } else { *end };
+        *end = if signed { wide } else { wide.max(0) };
+    }
+    let count = lent.matrix.len() / TRANSFER;
+    if count > 0 && random.once_in(3) {
+        let any = random.below(count as u64) as usize;
+        let place = random.pick(&[0, any, any, count - 1]);
+        reach_to(&mut lent.matrix[TRANSFER * place..], random.pick(&ODD_ENDS));
+    }
 }
 
 /// Of the noughts all are listed, some or none; if thin, some of the others.

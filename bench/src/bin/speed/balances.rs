@@ -3,7 +3,7 @@
 use kifwaleb_bench::case::Case;
 use kifwaleb_bench::generator::{settling, Random};
 use kifwaleb_bench::plain;
-use kifwaleb_bench::reference::{Interval, Outcome, Pass, System, DONE, MOST_SWEEPS};
+use kifwaleb_bench::reference::{Interval, Outcome, Pass, System, DONE, LIMIT, MOST_SWEEPS};
 
 const ONE: i64 = 1_000_000;
 
@@ -104,6 +104,19 @@ pub fn with_wide_box(mut case: Case) -> Case {
         ends[0] -= ends[0].abs() / 10 + 1;
         ends[1] += ends[1].abs() / 10 + 1;
     }
+    case
+}
+
+/// As `mixed`, with shares that are too far for sums in one word: a sweep tightens no box with
+/// them. It does so at the last vat, which gets nothing.
+pub fn wide(n: usize) -> Case {
+    let mut case = mixed(n);
+    let ends = case.matrix.iter_mut();
+    ends.for_each(|end| *end *= 400 * n as i64);
+    case.matrix[2 * n * (n - 1)..].fill(0);
+    case.right_side[2 * n - 2..].fill(0);
+    case.bounds = [-LIMIT, LIMIT].repeat(n);
+    case.bounds[2 * n - 2..].copy_from_slice(&[0, 5]);
     case
 }
 

@@ -1,7 +1,8 @@
 //! What is done by both sides.
 
 use crate::balances::{
-    heavy_row, listed, longest, mixed, noughts, shares, slow, slow_noughts, thinned, with_wide_box,
+    heavy_row, listed, longest, mixed, noughts, shares, slow, slow_noughts, thinned, wide,
+    with_wide_box,
 };
 use kifwaleb::{HalfRows, LOWEST};
 use kifwaleb_bench::archive::Archive;
@@ -29,7 +30,7 @@ pub enum Side {
 /// What a task is called, and how it is made for so many vats.
 pub type Kind = (&'static str, fn(usize) -> Task);
 
-pub const KINDS: [Kind; 31] = [
+pub const KINDS: [Kind; 35] = [
     ("eliminate-shares", |n| Task::Eliminate(shares(n))),
     ("eliminate-mixed", |n| Task::Eliminate(mixed(n))),
     ("start-shares", |n| Task::Start(shares(n))),
@@ -77,6 +78,12 @@ pub const KINDS: [Kind; 31] = [
     ("list-sweeps", |n| {
         Task::few(slow(thinned(shares(n - 1), FEW - 1)), SWEEPS)
     }),
+    ("list-mixed", |n| {
+        Task::few(with_wide_box(thinned(mixed(n), FEW)), ONE_SWEEP)
+    }),
+    ("list-mixeds", |n| {
+        Task::few(slow(thinned(mixed(n - 1), FEW - 1)), SWEEPS)
+    }),
     ("full-eliminate", |n| {
         Task::full(shares(n), ListCall::Eliminate)
     }),
@@ -87,6 +94,8 @@ pub const KINDS: [Kind; 31] = [
     ("full-mixed", |n| {
         Task::full(with_wide_box(mixed(n)), ONE_SWEEP)
     }),
+    ("full-mixeds", |n| Task::full(slow(mixed(n - 1)), SWEEPS)),
+    ("full-wide", |n| Task::full(wide(n), ONE_SWEEP)),
     ("read-longest", |n| Task::report(&crossed(longest(n)))),
     ("read-noughts", |n| {
         Task::on_text(short_named_text(&crossed(noughts(n))))
