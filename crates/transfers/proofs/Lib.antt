@@ -12,6 +12,7 @@ pub mod Places
 pub mod RowEnd
 pub mod Short
 pub mod Rows
+pub mod Terms
 pub mod Passes
 pub mod Call
 pub mod Gathered

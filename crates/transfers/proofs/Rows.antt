@@ -17,11 +17,11 @@ use Rattle.inputs.specs.declared.Test.the-variants.{Pass}
 use Rattle.inputs.specs.Place.{at}
 use Rattle.inputs.proofs.Tests.{both-pass, rows-apart}
 use Rattle.rows.specs.Sum.{exactly}
-use Rattle.rows.proofs.Exact.{sum-nought}
+use Rattle.rows.proofs.Exact.{sum-assoc, sum-nought}
 use Rattle.transfers.specs.declared.Transfer.{Transfer}
 use Rattle.transfers.specs.Listing.{nth, share, entries, placeOf, square}
 use Rattle.transfers.specs.Code.{allGood, judgement}
-use Rattle.transfers.specs.Rows.{InRange, InRow, Rows, end, summed, rowSum}
+use Rattle.transfers.specs.Rows.{InRange, InRow, Rows, end, term, summed, rowSum}
 use Rattle.transfers.proofs.Good.{good-end, each, good-passes}
 use Rattle.transfers.proofs.Places.{no-place, rises, own-place}
 use Rattle.transfers.proofs.RowEnd.{row-place, column-below}
@@ -39,14 +39,16 @@ module _ (ts : List Transfer) (x : List ℤ) (e k : ℕ) (acc : Interval) where
   unfolding summed
   summed-end h = let f : e - k ≡ 0 = omega arith in rw f
 
-  pub summed-go : k < e → summed ts x (e - k) k acc ≡ summed ts x (e - (k + 1)) (k + 1) (exactSum acc (exactProduct (share (nth ts k)) (at x (natAbs (nth ts k .giver) - 1))))
+  pub summed-go : k < e → summed ts x (e - k) k acc ≡ summed ts x (e - (k + 1)) (k + 1) (exactSum acc (term ts x k))
   unfolding summed
   summed-go h = let f : e - k ≡ suc (e - (k + 1)) = omega arith in rw f
 
-  -- from the values that are read
-  pub summed-next : {s a b r : Interval} {t : Transfer} {j : ℕ} → s ≡ summed ts x (e - k) k acc → k < e → t ≡ nth ts k → a ≡ share t → j ≡ natAbs (t .giver) - 1 → b ≡ at x j
-      → r ≡ exactSum acc (exactProduct a b) → s ≡ summed ts x (e - (k + 1)) (k + 1) r
-  summed-next f h g p q l u = rw (u, l, q, p, g) (f ∙ summed-go h)
+-- two records more, whose products are added first
+pub summed-two : (ts : List Transfer) (x : List ℤ) (e k : ℕ) (acc : Interval) → k + 1 + 1 ≤ e
+    → summed ts x (e - k) k acc ≡ summed ts x (e - (k + 2)) (k + 2) (exactSum acc (exactSum (term ts x k) (term ts x (k + 1))))
+summed-two ts x e k acc h =
+    let z : k + 1 + 1 ≡ k + 2 = omega arith in
+    summed-go ts x e k acc (omega arith) ∙ summed-go ts x e (k + 1) _ (omega arith) ∙ rw z (ap (summed ts x (e - (k + 2)) (k + 2)) (sum-assoc _ _ _))
 
 module _ (n : ℕ) (ts : List Transfer) (ends : List ℕ) {shares : Interval} (range : InRange shares) (w : Rows n ts ends shares) where
   abbrev P : ℕ → ℕ
@@ -213,7 +215,7 @@ module _ (n : ℕ) (ts : List Transfer) (ends : List ℕ) {shares : Interval} (r
     Sums d c = (k : ℕ) (acc : Interval) → Split c k → exactly (square n ts) (i * n) x 0 d c acc ≡ summed ts x (past - k) k acc
 
     sums-go : (d c k : ℕ) (acc : Interval) → Sums d (c + 1) → Listed c k ⊎ Unlisted c k → exactly (square n ts) (i * n) x 0 (suc d) c acc ≡ summed ts x (past - k) k acc
-    unfolding exactly
+    unfolding exactly term
     sums-go d c k acc f (inl l) =
         ap (λ v. exactly (square n ts) (i * n) x 0 d (c + 1) (exactSum acc v)) (ap₂ exactProduct (l .own) (ap (at x) (zero-add c ∙ l .column)))
         ∙ f (k + 1) _ (l .next)

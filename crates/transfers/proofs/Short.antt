@@ -8,18 +8,11 @@ use lib.Signed.{_≤ℤ_, leZ, ltZ, leZ-yes}
 use Rattle.integer.proofs.Linear.{linear, over}
 use Rattle.integer.proofs.Order.{left, le-taken, trans, also, prod}
 use Rattle.interval.specs.declared.Interval.{Interval}
-use Rattle.interval.specs.Interval.{zero, lowest, highest, acceptable, exactSum, exactProduct}
+use Rattle.interval.specs.Interval.{acceptable, exactSum, exactProduct}
 use Rattle.interval.specs.Code.{Representable}
 use Rattle.interval.proofs.Corners.{least-first, greatest-first, least-ind, greatest-ind}
 use Rattle.rows.proofs.Size.{Small, sum-small, small-fits, acceptable-small}
-use Rattle.transfers.specs.Rows.{Short, InRange, Holds}
-
-pub short-range : {h : Interval} → Short h → InRange h
-unfolding lowest highest
-short-range s = record { low = trans (leZ-yes tt) (s .low); high = trans (s .high) (leZ-yes tt) }
-
-pub nought-short : Short zero
-nought-short = record { low = leZ-yes tt; high = leZ-yes tt }
+use Rattle.transfers.specs.Rows.{Short, Holds}
 
 pub short-held : {h v : Interval} → Short h → Holds h v → Short v
 short-held s w = record { low = trans (s .low) (w .low); high = trans (w .high) (s .high) }

@@ -16,9 +16,10 @@ use Rattle.sweep.specs.Code.{Ready}
 use Rattle.transfers.specs.declared.Transfer.{Transfer}
 use Rattle.transfers.specs.declared.internal.found.Row.{Row}
 use Rattle.transfers.specs.declared.internal.found.Found.{Found}
+use Rattle.transfers.specs.declared.internal.listed.Known.{Known}
 use Rattle.transfers.specs.declared.internal.calls.Way.{Way}
 use Rattle.transfers.specs.declared.internal.calls.Way.the-variants as way
-use Rattle.transfers.specs.Listing.{Listing, nth, share, bothComponents, square, transfersOf}
+use Rattle.transfers.specs.Listing.{Listing, nth, share, isComponent, bothComponents, square, transfersOf}
 use Rattle.transfers.specs.Code.{allGood}
 
 -- ---- the hull of shares: what holds them all
@@ -74,43 +75,55 @@ pub record Rows (n : ℕ) (ts : List Transfer) (ends : List ℕ) (h : Interval) 
   pub row : (i : ℕ) → i < n → RowOf n ts i h (end ends i) (end ends (i + 1))
 
 pub record AllRows (n : ℕ) (ts : List Transfer) (ends : List ℕ) (f : Found) : Type 0 where
-  pub is : f .whole ≡ true → Rows n ts ends (f .hull) × Short (f .hull)
+  pub is : f .whole ≡ true → Rows n ts ends (f .hull) × InRange (f .hull)
 
--- rows whose sums fit one word; if above is true, no share is below 0
-pub record OneWord (n : ℕ) (ts : List Transfer) (ends : List ℕ) (above : Bool) : Type 0 where
+-- rows with shares in the range; if short is true, their sums fit one word, and if above is, no share is below 0
+pub record Summable (n : ℕ) (ts : List Transfer) (ends : List ℕ) (short above : Bool) : Type 0 where
   pub hull : Interval
   pub rows : Rows n ts ends hull
-  pub short : Short hull
+  pub range : InRange hull
+  pub few : short ≡ true → Short hull
   pub shares : above ≡ true → pos 0 ≤ℤ hull .lo
 
-pub record InRows (n : ℕ) (rs : List (List ℤ)) (ends : List ℕ) (above : Bool) : Type 0 where
+pub record InRows (n : ℕ) (rs : List (List ℤ)) (ends : List ℕ) (short above : Bool) : Type 0 where
   pub few : n ≤ 32
-  pub short : length rs ≤ 1_024
+  pub list : length rs ≤ 1_024
   pub room : length ends ≡ 33
-  pub sums : OneWord n (transfersOf rs) ends above
+  pub sums : Summable n (transfersOf rs) ends short above
 
 -- the list in rows, and the square, right side and box that the passes are about
-pub record Listed (n : ℕ) (rs : List (List ℤ)) (ends : List ℕ) (above : Bool) (r x : List ℤ) : Type 0 where
-  pub listed : InRows n rs ends above
+pub record Listed (n : ℕ) (rs : List (List ℤ)) (ends : List ℕ) (known : Known) (r x : List ℤ) : Type 0 where
+  pub listed : InRows n rs ends (known .short) (known .above)
   pub ready : Ready n (square n (transfersOf rs)) r x
-  pub box : above ≡ true → NoneBelow x
+  pub box : known .above ≡ true → NoneBelow x
 
 -- a list that passed all tests of intervals and stands in rows
-pub record Plain (s : Listing) (X : List ℤ) (ends : List ℕ) (above : Bool) : Type 0 where
+pub record Plain (s : Listing) (X : List ℤ) (ends : List ℕ) (known : Known) : Type 0 where
   pub right : Sound (s .right)
   pub box : Sound X
-  pub sums : OneWord (s .size) (s .transfers) ends above
-  pub components : above ≡ true → NoneBelow X
+  pub sums : Summable (s .size) (s .transfers) ends (known .short) (known .above)
+  pub components : known .above ≡ true → NoneBelow X
 
 abbrev pub Chosen : (s : Listing) (X : List ℤ) (ends : List ℕ) → Way → Type 0
-Chosen s X ends (way.Rows above) = Plain s X ends above
+Chosen s X ends (way.Rows known) = Plain s X ends known
 Chosen s X ends way.Square = Unit {0}
 
--- acc and the products of the records k, k + 1, .., d of them, each with the component of its giver, unrounded
+-- ---- sums
+-- the record k can be multiplied with a component; if above is true, its share is not below 0
+pub record Factors (n : ℕ) (ts : List Transfer) (above : Bool) (k : ℕ) : Type 0 where
+  pub inside : isComponent n (nth ts k .giver) ≡ true
+  pub proper : interval.acceptable (share (nth ts k)) ≡ true
+  pub over : above ≡ true → pos 0 ≤ℤ share (nth ts k) .lo
+
+-- the product of the record k with the component of its giver, unrounded
+unfoldable pub term : List Transfer → List ℤ → (k : ℕ) → Interval
+term ts x k = interval.exactProduct (share (nth ts k)) (at x (natAbs (nth ts k .giver) - 1))
+
+-- acc and the products of the records k, k + 1, .., d of them
 unfoldable pub summed : List Transfer → List ℤ → (d k : ℕ) → Interval → Interval
 summed ts x zero k acc = acc
 summed ts x (suc d) k acc =
-    summed ts x d (k + 1) (interval.exactSum acc (interval.exactProduct (share (nth ts k)) (at x (natAbs (nth ts k .giver) - 1))))
+    summed ts x d (k + 1) (interval.exactSum acc (term ts x k))
 
 unfoldable pub rowSum : List Transfer → (ends : List ℕ) → List ℤ → (i : ℕ) → Interval
 rowSum ts ends x i = summed ts x (end ends (i + 1) - end ends i) (end ends i) interval.zero

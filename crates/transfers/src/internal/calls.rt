@@ -1,5 +1,7 @@
 // The calls over records as four numbers each.
 use crate::internal::found::find_rows;
+use crate::internal::found::is_short;
+use crate::internal::listed::Known;
 use crate::internal::passes;
 use crate::internal::square::enter;
 use crate::internal::tests::sizes;
@@ -28,7 +30,7 @@ ghost use Rattle.sweep.specs.Calls.{sweepCall, symmetricCall};
 ghost use Rattle.transfers.specs.Listing.{listing, sizes, transfersOf};
 ghost use Rattle.transfers.specs.Call.{overList, callList};
 ghost use Rattle.transfers.specs.Code.{listOver};
-ghost use Rattle.transfers.specs.Rows.{Chosen};
+ghost use Rattle.transfers.specs.Rows.{Short, Chosen};
 
 // Elimination after tests 1 and 2, in a working copy of noughts.
 fn eliminate_in(n: usize, rs: &[[i64; 4]], t: &mut [i64], b: &[i64], bounds: &mut [i64]) -> Outcome
@@ -105,9 +107,9 @@ fn sweep_in(
     run(n, halves, square, b, bounds, allowed)
 }
 
-// Over what sweeps go: the rows of the list, where above says that no share and no component is below 0; or its square.
+// Over what sweeps go: the rows of the list, with what is known of them; or its square.
 enum Way {
-    Rows(bool),
+    Rows(Known),
     Square,
 }
 
@@ -122,7 +124,17 @@ fn are_above(h: Interval, x: &[i64], n: usize) -> bool
     all_above(x, n)
 }
 
-// The rows, if all tests of intervals pass and sums fit one word; then ends has where they end.
+// What is known of rows with this hull of their shares, and of a box.
+fn known_of(h: Interval, x: &[i64], n: usize) -> Known
+    requires { ⌜ (length (now x) ≡ 2 * n) × (n ≤ 32) × Sound (now x) ⌝ }
+    ensures { λ r. ⌜ (r .short ≡ true → Short h) × (r .above ≡ true → (pos 0 ≤ℤ h .lo) × NoneBelow (now (x .entry))) ⌝ }
+{
+    let short = is_short(h);
+    let above = are_above(h, x, n);
+    Known { short, above }
+}
+
+// The rows, if all tests pass; then ends has where they end.
 fn choose(n: usize, rs: &[[i64; 4]], b: &[i64], bounds: &[i64], ends: &mut [usize]) -> Way
     requires { ⌜ sizes (listing n (transfersOf (now rs)) (now b)) (length (now bounds)) ≡ Pass ⌝ }
     requires { ⌜ (length (now ends) ≡ 33) × (getD (now ends) 0 0 ≡ 0) ⌝ }
@@ -141,7 +153,7 @@ fn choose(n: usize, rs: &[[i64; 4]], b: &[i64], bounds: &[i64], ends: &mut [usiz
     if !f.whole {
         return Way::Square;
     }
-    Way::Rows(are_above(h, bounds, n))
+    Way::Rows(known_of(h, bounds, n))
 }
 
 // Sweeps after tests 1, 2 and 4.
@@ -161,8 +173,8 @@ fn sweep_sized(
 {
     let mut ends = [0usize; 33];
     let w = choose(n, rs, b, bounds, &mut ends);
-    if let Way::Rows(above) = w {
-        return passes::run(n, halves, above, rs, &ends, b, bounds, allowed);
+    if let Way::Rows(known) = w {
+        return passes::run(n, halves, known, rs, &ends, b, bounds, allowed);
     }
     let mut square = [0i64; 2048];
     sweep_in(

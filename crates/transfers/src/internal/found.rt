@@ -5,6 +5,7 @@ use crate::internal::tests::share;
 use integer::internal::max_of;
 use integer::internal::min_of;
 use interval::Interval;
+use interval::internal::in_range;
 ghost use mathlib.Core.Path.{_≡_};
 ghost use mathlib.Core.Bool.{true, false};
 ghost use Prim.Native.Nat.{_+_, _≤_, _<_};
@@ -12,7 +13,7 @@ ghost use lib.IntN.{pos, natAbs};
 ghost use lib.ListN.{length, getD};
 ghost use lib.Signed.{_≤ℤ_};
 ghost use Rattle.transfers.specs.Listing.{transfersOf};
-ghost use Rattle.transfers.specs.Rows.{hull, Short, Later, RowEnd, AllRows};
+ghost use Rattle.transfers.specs.Rows.{hull, InRange, Short, Later, RowEnd, AllRows};
 
 // What a row ends with: the place after its last record, which is past the list if one of them fails a test; the columns that it has passed; a hull of all shares so far.
 pub struct Row {
@@ -21,7 +22,7 @@ pub struct Row {
     pub hull: Interval,
 }
 
-// Whether a list stands in rows whose sums fit one word, and a hull of its shares.
+// Whether a list stands in rows, and a hull of its shares.
 pub struct Found {
     pub whole: bool,
     pub hull: Interval,
@@ -106,19 +107,9 @@ fn row_end(n: usize, rs: &[[i64; 4]], i: usize, from: usize, held: Interval) -> 
     }
 }
 
-// Whether shares with this hull can be summed in one word.
-fn is_short(h: Interval) -> bool
-    ensures { λ r. ⌜ (r ≡ true → Short h) ⌝ }
-{
-    if h.lo < -134_217_728 {
-        return false;
-    }
-    h.hi <= 134_217_728
-}
-
-// Whether a row passes all tests of a list of so many records, and sums of its shares and those before fit one word.
+// Whether a row passes all tests of a list of so many records.
 fn is_good(n: usize, count: usize, r: Row) -> bool
-    ensures { λ g. ⌜ (g ≡ true → (r .end ≤ count) × (r .columns ≤ n) × Short (r .hull)) ⌝ }
+    ensures { λ g. ⌜ (g ≡ true → (r .end ≤ count) × (r .columns ≤ n) × InRange (r .hull)) ⌝ }
 {
     if count < r.end {
         return false;
@@ -126,10 +117,10 @@ fn is_good(n: usize, count: usize, r: Row) -> bool
     if n < r.columns {
         return false;
     }
-    is_short(r.hull)
+    in_range(r.hull)
 }
 
-// Found of a list that does not stand in such rows.
+// Found of a list that does not stand in rows.
 fn not_whole() -> Found
     ensures { λ r. ⌜ r .whole ≡ false ⌝ }
 {
@@ -139,7 +130,7 @@ fn not_whole() -> Found
     }
 }
 
-// Where the rows end, one after the other; row i begins where the row before it ends. Not whole, if a record fails a test or a share is too great for sums in one word.
+// Where the rows end, one after the other; row i begins where the row before it ends. Not whole, if a record fails a test.
 pub fn find_rows(n: usize, rs: &[[i64; 4]], ends: &mut [usize]) -> Found
     requires { ⌜ (n ≤ 32) × (length (now rs) ≤ 1_024) × (length (now ends) ≡ 33) × (getD (now ends) 0 0 ≡ 0) ⌝ }
     ensures { λ r. ⌜ AllRows n (transfersOf (now (rs .entry))) (now (ends .exit)) r ⌝ }
@@ -162,4 +153,14 @@ pub fn find_rows(n: usize, rs: &[[i64; 4]], ends: &mut [usize]) -> Found
         whole: true,
         hull: all,
     }
+}
+
+// Whether shares with this hull can be summed in one word.
+pub fn is_short(h: Interval) -> bool
+    ensures { λ r. ⌜ (r ≡ true → Short h) ⌝ }
+{
+    if h.lo < -134_217_728 {
+        return false;
+    }
+    h.hi <= 134_217_728
 }

@@ -1,4 +1,5 @@
 // Sweeps over the rows of a list.
+use crate::internal::listed::Known;
 use crate::internal::listed::component;
 use inputs::internal::copy::copy_out;
 use inputs::internal::read;
@@ -24,22 +25,22 @@ ghost use Rattle.transfers.specs.Rows.{Listed};
 fn pass_once(
     n: usize,
     halves: usize,
-    above: bool,
+    known: Known,
     rs: &[[i64; 4]],
     ends: &[usize],
     r: &[i64],
     x: &mut [i64],
 ) -> OnePass
-    requires { ⌜ Listed n (now rs) (now ends) above (now r) (now x) × (halves ≤ 2) ⌝ }
+    requires { ⌜ Listed n (now rs) (now ends) known (now r) (now x) × (halves ≤ 2) ⌝ }
     ensures passed { λ p. ⌜
         Passed (pass halves (system n (square n (transfersOf (now (rs .entry)))) (now (r .entry))) (now (x .entry))) n (now (x .entry)) p (now (x .exit))
         ⌝ }
-    ensures above { λ _. ⌜ (above ≡ true → NoneBelow (now (x .exit))) ⌝ }
+    ensures above { λ _. ⌜ (known .above ≡ true → NoneBelow (now (x .exit))) ⌝ }
 {
     let mut changed = false;
     for k in 0..halves * n {
         let i = turn(n, k);
-        let v = component(n, i, above, rs, ends, r, x);
+        let v = component(n, i, known, rs, ends, r, x);
         if is_empty(v) {
             return OnePass::Empty(i + 1);
         }
@@ -54,14 +55,14 @@ fn pass_once(
 fn repeat(
     n: usize,
     halves: usize,
-    above: bool,
+    known: Known,
     rs: &[[i64; 4]],
     ends: &[usize],
     r: &[i64],
     x: &mut [i64],
     allowed: usize,
 ) -> Swept
-    requires { ⌜ Listed n (now rs) (now ends) above (now r) (now x) × (halves ≤ 2) ⌝ }
+    requires { ⌜ Listed n (now rs) (now ends) known (now r) (now x) × (halves ≤ 2) ⌝ }
     requires { ⌜ allowed ≤ 10_000 ⌝ }
     ensures { λ s. ⌜
         Logged (sweeps n (pass halves (system n (square n (transfersOf (now (rs .entry)))) (now (r .entry)))) allowed (now (x .entry)))
@@ -70,7 +71,7 @@ fn repeat(
 {
     let mut count: usize = 0;
     while count < allowed {
-        match pass_once(n, halves, above, rs, ends, r, x) {
+        match pass_once(n, halves, known, rs, ends, r, x) {
             OnePass::Empty(i) => {
                 return Swept {
                     outcome: Outcome::Empty(i),
@@ -98,7 +99,7 @@ fn repeat(
 fn tighten(
     n: usize,
     halves: usize,
-    above: bool,
+    known: Known,
     rs: &[[i64; 4]],
     ends: &[usize],
     r: &[i64],
@@ -106,7 +107,7 @@ fn tighten(
     bounds: &mut [i64],
     allowed: usize,
 ) -> Swept
-    requires { ⌜ Listed n (now rs) (now ends) above (now r) (now bounds) × (allowed ≤ 10_000) ⌝ }
+    requires { ⌜ Listed n (now rs) (now ends) known (now r) (now bounds) × (allowed ≤ 10_000) ⌝ }
     requires { ⌜ (length (now x) ≡ 2 * n) × (halves ≤ 2) ⌝ }
     ensures { λ s. ⌜
         Ran (sweeps n (pass halves (system n (square n (transfersOf (now (rs .entry)))) (now (r .entry)))) allowed (now (bounds .entry)))
@@ -114,7 +115,7 @@ fn tighten(
         ⌝ }
 {
     copy_out(x, bounds, 0);
-    let s = repeat(n, halves, above, rs, ends, r, x, allowed);
+    let s = repeat(n, halves, known, rs, ends, r, x, allowed);
     let o = s.outcome;
     if o.number() != 7 {
         copy_out(bounds, x, 0);
@@ -126,14 +127,14 @@ fn tighten(
 pub fn run(
     n: usize,
     halves: usize,
-    above: bool,
+    known: Known,
     rs: &[[i64; 4]],
     ends: &[usize],
     r: &[i64],
     bounds: &mut [i64],
     allowed: usize,
 ) -> Swept
-    requires { ⌜ Listed n (now rs) (now ends) above (now r) (now bounds) × (allowed ≤ 10_000) ⌝ }
+    requires { ⌜ Listed n (now rs) (now ends) known (now r) (now bounds) × (allowed ≤ 10_000) ⌝ }
     requires { ⌜ halves ≤ 2 ⌝ }
     ensures { λ s. ⌜
         Ran (sweeps n (pass halves (system n (square n (transfersOf (now (rs .entry)))) (now (r .entry)))) allowed (now (bounds .entry)))
@@ -144,7 +145,7 @@ pub fn run(
     tighten(
         n,
         halves,
-        above,
+        known,
         rs,
         ends,
         r,

@@ -65,8 +65,8 @@ same-length c = search needs
 returns-3 : tie.Need-returns-3
 returns-3 c = search needs
 
-are-above-requires : tie.Need-are-above-requires
-are-above-requires c κs =
+known-of-requires : tie.Need-known-of-requires
+known-of-requires c κs =
     let t = c .before .before .before .before .before .before .before in
     let f = fits (t .before .before .before .before .before .before .before) in
     (f .box, f .few, box t)
@@ -80,12 +80,12 @@ returns-4 c =
     let r = e .before .before .before .before .before in
     let t = r .before .before in
     let w = r .find-rows .ensures .is (not-false _ (e .if1 .left)) in
-    let above = c .are-above .ensures in
+    let k = c .known-of .ensures in
     record {
       right = right (t .before .before .before);
       box = box t;
-      sums = record { hull = r .find-rows .result .hull; rows = w .0; short = w .1; shares = λ h. above h .0 };
-      components = λ h. above h .1;
+      sums = record { hull = r .find-rows .result .hull; rows = w .0; range = w .1; few = k .0; shares = λ h. k .1 h .0 };
+      components = λ h. k .1 h .1;
     }
 
 pub choose-spec : {M : Type 1} → statement M
@@ -103,6 +103,6 @@ choose-spec =
     find-rows-requires
     same-length
     returns-3
-    are-above-requires
+    known-of-requires
     same-length-2
     returns-4)

@@ -14,7 +14,6 @@ use Rattle.transfers.specs.Rows.{Plain, Chosen}
 use Rattle.transfers.proofs.Records.{length-transfers}
 use Rattle.transfers.proofs.Sizes.{fitting}
 use Rattle.transfers.proofs.Square.{take-noughts, sound-proper}
-use Rattle.transfers.proofs.Short.{short-range}
 use Rattle.transfers.proofs.Rows.{rows-judged}
 use Rattle.transfers.proofs.Call.{over-ready, over-runs}
 use Rattle.transfers.proofs.internal.calls.sweep_sized.Statement.{statement}
@@ -50,7 +49,7 @@ tested : (c : tie.After-w) → let s = c .before .before .before .before .before
 tested c =
     let s = c .before .before .before .before .before .before in
     let p = plain c in
-    over-ready 0 (lent s) (s .args .allowed) (now (s .args .bounds)) (s .pre .0) (s .pre .1) (rows-judged _ _ _ (short-range (p .sums .short)) (p .sums .rows)) (sound-proper _ _ _ (p .right)) (sound-proper _ _ _ (p .box))
+    over-ready 0 (lent s) (s .args .allowed) (now (s .args .bounds)) (s .pre .0) (s .pre .1) (rows-judged _ _ _ (p .sums .range) (p .sums .rows)) (sound-proper _ _ _ (p .right)) (sound-proper _ _ _ (p .box))
 
 run-requires : tie.Need-run-requires
 run-requires c κs =
@@ -60,7 +59,7 @@ run-requires c κs =
     let p = plain w in
     let f = fitting _ _ (s .pre .0) in
     let t = tested w in
-    ((record { listed = record { few = f .few; short = rw (length-transfers _) at (f .short); room = h .choose .kept .1 .1 .1 .1 .0; sums = p .sums }; ready = ready (squared (lent s)) _ _ t; box = p .components }, allowed-few (squared (lent s)) _ _ t), s .pre .2)
+    ((record { listed = record { few = f .few; list = rw (length-transfers _) at (f .short); room = h .choose .kept .1 .1 .1 .1 .0; sums = p .sums }; ready = ready (squared (lent s)) _ _ t; box = p .components }, allowed-few (squared (lent s)) _ _ t), s .pre .2)
 
 same-length : tie.Need-same-length
 same-length c = search needs
@@ -70,7 +69,7 @@ returns c =
     let w = c .before .before .before .before .before in
     let s = w .before .before .before .before .before .before in
     let p = plain w in
-    over-runs _ _ _ _ (s .pre .0) (s .pre .1) (rows-judged _ _ _ (short-range (p .sums .short)) (p .sums .rows)) (sound-proper _ _ _ (p .right)) (sound-proper _ _ _ (p .box)) (c .before .run .ensures)
+    over-runs _ _ _ _ (s .pre .0) (s .pre .1) (rows-judged _ _ _ (p .sums .range) (p .sums .rows)) (sound-proper _ _ _ (p .right)) (sound-proper _ _ _ (p .box)) (c .before .run .ensures)
 
 enum-told : tie.Need-enum-told
 enum-told c = search needs

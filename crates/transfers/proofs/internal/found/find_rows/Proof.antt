@@ -11,15 +11,15 @@ use lib.ListN.{length}
 use Rattle.transfers.specs.declared.Transfer.{Transfer}
 use Rattle.transfers.specs.declared.internal.found.Found as declared
 use Rattle.transfers.specs.Listing.{transfersOf}
-use Rattle.transfers.specs.Rows.{Short, AllRows}
+use Rattle.transfers.specs.Rows.{InRange, AllRows}
 use Rattle.transfers.proofs.Records.{length-transfers}
 use Rattle.transfers.proofs.RowEnd.{Found, none-found, one-found, all-found}
-use Rattle.transfers.proofs.Short.{nought-short}
+use Rattle.transfers.proofs.Terms.{nought-range}
 use Rattle.transfers.proofs.internal.found.find_rows.Statement.{statement}
 use Rattle.transfers.proofs.internal.found.find_rows.Tie as tie
 
 abbrev Inv-loop : tie.InvT-loop
-Inv-loop n rs ends₀ from₀ all₀ i₀ ends from all i = (i ≤ n) × (from ≤ length rs) × Found n (transfersOf rs) ends all from i × Short all
+Inv-loop n rs ends₀ from₀ all₀ i₀ ends from all i = (i ≤ n) × (from ≤ length rs) × Found n (transfersOf rs) ends all from i × InRange all
 
 abbrev μ-loop : tie.MeasureT-loop
 μ-loop n rs ends₀ from₀ all₀ i₀ ends from all i = n - i
@@ -29,7 +29,7 @@ nothing : {n : ℕ} {ts : List Transfer} {ends : List ℕ} {f : declared.Found} 
 nothing e = record { is = λ h. absurd (subst T (sym h ∙ e) tt) }
 
 loop-holds : tie.Need-loop-holds Inv-loop μ-loop
-loop-holds c = let s = c .before in (omega arith, omega arith, none-found _ _ (s .pre .2) (s .pre .3), nought-short)
+loop-holds c = let s = c .before in (omega arith, omega arith, none-found _ _ (s .pre .2) (s .pre .3), nought-range)
 
 row-end-requires : tie.Need-row-end-requires Inv-loop μ-loop
 row-end-requires c κs = (omega arith, omega arith, omega arith, c .before .loop .inv .1)
@@ -67,7 +67,7 @@ loop-less c = omega arith
 
 -- the row that was found
 good : (c : tie.Else1 Inv-loop μ-loop) → let r = c .before .before .row-end .result in let s = c .before .before .before .before .before .before in
-    (r .end ≤ length (now (s .args .rs))) × (r .columns ≤ s .args .n) × Short (r .hull)
+    (r .end ≤ length (now (s .args .rs))) × (r .columns ≤ s .args .n) × InRange (r .hull)
 good c = c .before .is-good .ensures (not-false _ (c .if1 .left))
 
 loop-again : tie.Need-loop-again Inv-loop μ-loop

@@ -11,10 +11,10 @@ use Rattle.transfers.proofs.internal.passes.pass_once.Statement.{statem
 use Rattle.transfers.proofs.internal.passes.pass_once.Tie as tie
 
 abbrev Inv-loop : tie.InvT-loop
-Inv-loop n halves above rs ends r x₀ changed₀ k₀ k-end x changed k = (k ≤ halves * n) × Halfway n (halves * n) k (square n (transfersOf rs)) r x₀ x changed
+Inv-loop n halves known rs ends r x₀ changed₀ k₀ k-end x changed k = (k ≤ halves * n) × Halfway n (halves * n) k (square n (transfersOf rs)) r x₀ x changed
 
 abbrev μ-loop : tie.MeasureT-loop
-μ-loop n halves above rs ends r x₀ changed₀ k₀ k-end x changed k = halves * n - k
+μ-loop n halves known rs ends r x₀ changed₀ k₀ k-end x changed k = halves * n - k
 
 mul-k-end : tie.Need-mul-k-end Inv-loop μ-loop
 mul-k-end c = omega (arith, few-turns (c .before .args .n) _ (c .before .pre .1), c .before .pre .0 .listed .few)

@@ -15,11 +15,11 @@ use Rattle.transfers.proofs.internal.passes.repeat.Statement.{statement
 use Rattle.transfers.proofs.internal.passes.repeat.Tie as tie
 
 abbrev Inv-loop : tie.InvT-loop
-Inv-loop n halves above rs ends r x₀ allowed count₀ x count =
-    (count ≤ allowed) × Listed n rs ends above r x × Since (sweeps n (pass halves (system n (square n (transfersOf rs)) r)) allowed x₀) x₀ count (sweeps n (pass halves (system n (square n (transfersOf rs)) r)) (allowed - count) x) x
+Inv-loop n halves known rs ends r x₀ allowed count₀ x count =
+    (count ≤ allowed) × Listed n rs ends known r x × Since (sweeps n (pass halves (system n (square n (transfersOf rs)) r)) allowed x₀) x₀ count (sweeps n (pass halves (system n (square n (transfersOf rs)) r)) (allowed - count) x) x
 
 abbrev μ-loop : tie.MeasureT-loop
-μ-loop n halves above rs ends r x₀ allowed count₀ x count = allowed - count
+μ-loop n halves known rs ends r x₀ allowed count₀ x count = allowed - count
 
 loop-holds : tie.Need-loop-holds Inv-loop μ-loop
 loop-holds c = (omega arith, c .before .pre .0 .0, rw sub-zero (since-start _ _))

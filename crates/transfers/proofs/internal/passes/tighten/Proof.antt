@@ -27,7 +27,7 @@ copy-out-requires c κs = omega (arith, as-long (c .before .before .before))
 repeat-requires : tie.Need-repeat-requires
 repeat-requires c κs =
     let s = c .before .before .before .before .before .before in (
-      (subst (λ (y : List ℤ). Listed (s .args .n) (now (s .args .rs)) (now (s .args .ends)) (s .args .above) (now (s .args .r)) y) (sym (copied (c .before .before))) (s .pre .0 .0), s .pre .1 .1),
+      (subst (λ (y : List ℤ). Listed (s .args .n) (now (s .args .rs)) (now (s .args .ends)) (s .args .known) (now (s .args .r)) y) (sym (copied (c .before .before))) (s .pre .0 .0), s .pre .1 .1),
       s .pre .0 .1,
     )
 

@@ -1,0 +1,197 @@
+use mathlib.Core.Path.{_≡_, sym, ap, subst, _∙_}
+use Prim.Native.Nat.{ℕ, _+_, _-_, _*_, _/_, _≤_}
+use native.Mathlib.Omega.{arith}
+use borrow.Author.Needs.{needs}
+use denote.Ref.{now}
+use Rattle.interval.specs.Interval.{exactSum}
+use Rattle.wide_sum.specs.Wide.{heldBoth}
+use Rattle.wide_sum.specs.Code.{NearBoth}
+use Rattle.wide_sum.proofs.Near.{near-both-more}
+use Rattle.transfers.specs.Listing.{transfersOf}
+use Rattle.transfers.specs.Rows.{RowOf, Factors, end, summed, rowSum}
+use Rattle.transfers.proofs.Records.{length-transfers}
+use Rattle.transfers.proofs.Rows.{summed-end, summed-go, summed-two}
+use Rattle.transfers.proofs.Terms.{Above, factors, term-above}
+use Rattle.transfers.proofs.internal.listed.wide_sum.Statement.{statement}
+use Rattle.transfers.proofs.internal.listed.wide_sum.Tie as tie
+
+-- j pairs are added
+abbrev Inv-loop : tie.InvT-loop
+Inv-loop n above rs ends x i from count pairs sum₀ j₀ sum j =
+    (j ≤ pairs) × (rowSum (transfersOf rs) ends x i ≡ summed (transfersOf rs) x (end ends (i + 1) - (from + 2 * j)) (from + 2 * j) (heldBoth sum)) × NearBoth j sum
+
+abbrev μ-loop : tie.MeasureT-loop
+μ-loop n above rs ends x i from count pairs sum₀ j₀ sum j = pairs - j
+
+-- ---- the row
+abbrev first : tie.Start Inv-loop μ-loop → ℕ
+first c = end (now (c .args .ends)) (c .args .i)
+
+abbrev past : tie.Start Inv-loop μ-loop → ℕ
+past c = end (now (c .args .ends)) (c .args .i + 1)
+
+row : (c : tie.Start Inv-loop μ-loop) → RowOf (c .args .n) (transfersOf (now (c .args .rs))) (c .args .i) (c .pre .0 .0 .sums .hull) (first c) (past c)
+row c = c .pre .0 .0 .sums .rows .row (c .args .i) (c .pre .0 .1)
+
+-- it is short, and lies in the list
+few : (c : tie.Start Inv-loop μ-loop) → past c - first c ≤ 32
+few c = omega (arith, row c .few, c .pre .0 .0 .few)
+
+inside : (c : tie.Start Inv-loop μ-loop) → past c ≤ 1024
+inside c = omega (arith, row c .within, length-transfers (now (c .args .rs)), c .pre .0 .0 .list)
+
+-- a record of the row can be multiplied
+can : (c : tie.Start Inv-loop μ-loop) (k : ℕ) → first c ≤ k → k + 1 ≤ past c → Factors (c .args .n) (transfersOf (now (c .args .rs))) (c .args .above) k
+can c k f g = factors (c .pre .0 .0 .sums) (c .pre .0 .1) f (omega (arith, g))
+
+mul-from : tie.Need-mul-from Inv-loop μ-loop
+mul-from c = let w = c .before .pre .0 in omega (arith, w .0 .few, w .1)
+
+shared-slice-read-from : tie.Need-shared-slice-read-from Inv-loop μ-loop
+shared-slice-read-from c = let w = c .before .before .pre .0 in omega (arith, w .0 .few, w .0 .room, w .1)
+
+add-count : tie.Need-add-count Inv-loop μ-loop
+add-count c = let w = c .before .before .pre .0 in omega (arith, w .0 .few, w .1)
+
+mul-count : tie.Need-mul-count Inv-loop μ-loop
+mul-count c = let w = c .before .before .pre .0 in omega (arith, w .0 .few, w .1)
+
+shared-slice-read-count : tie.Need-shared-slice-read-count Inv-loop μ-loop
+shared-slice-read-count c = let w = c .before .before .before .pre .0 in omega (arith, w .0 .few, w .0 .room, w .1)
+
+sub-count : tie.Need-sub-count Inv-loop μ-loop
+sub-count c = row (c .before .before .before) .forward
+
+nought-requires : tie.Need-nought-requires Inv-loop μ-loop
+nought-requires c κs = search needs
+
+loop-holds : tie.Need-loop-holds Inv-loop μ-loop
+unfolding rowSum
+loop-holds c =
+    let s = c .before .before .before .before in
+    let z : first s + 0 ≡ first s = omega arith in
+    (omega arith, rw (z, c .nought .ensures .0), c .nought .ensures .1)
+
+abbrev start : tie.At-loop Inv-loop μ-loop → tie.Start Inv-loop μ-loop
+start c = c .before .before .before .before .before
+
+-- two records are left
+left-two : (c : tie.In-loop Inv-loop μ-loop) → let s = start (c .before) in first s + 2 * c .before .loop .j + 1 + 1 ≤ past s
+left-two c = let s = start (c .before) in omega (arith, c .loop-test .taken, row s .forward)
+
+mul-next-two : tie.Need-mul-next-two Inv-loop μ-loop
+mul-next-two c = omega (arith, left-two c, inside (start (c .before)))
+
+add-next-two : tie.Need-add-next-two Inv-loop μ-loop
+add-next-two c = omega (arith, left-two c, inside (start (c .before)))
+
+next-two-requires : tie.Need-next-two-requires Inv-loop μ-loop
+next-two-requires c κs =
+    let l = c .before in
+    let s = start l in
+    let h = left-two c in (
+      (
+        omega (arith, h, row s .within, length-transfers (now (s .args .rs))),
+        s .pre .0 .0 .list,
+        near-both-more (omega (arith, h, inside s)) (l .loop .inv .2),
+      ),
+      ((can s _ (omega arith) (omega (arith, h)), can s _ (omega arith) h), s .pre .1),
+    )
+
+add-j : tie.Need-add-j Inv-loop μ-loop
+add-j c = omega (arith, left-two (c .before), inside (start (c .before .before)))
+
+loop-less : tie.Need-loop-less Inv-loop μ-loop
+loop-less c = omega arith
+
+loop-again : tie.Need-loop-again Inv-loop μ-loop
+loop-again c =
+    let d = c .before in
+    let l = d .before in
+    let s = start l in
+    let z : first s + 2 * (l .loop .j + 1) ≡ first s + 2 * l .loop .j + 2 = omega arith in
+    (omega (arith, d .loop-test .taken), l .loop .inv .1 ∙ summed-two _ _ _ _ _ (left-two d) ∙ rw (z, c .next-two .ensures .is), c .next-two .ensures .near _ (l .loop .inv .2))
+
+-- ---- after all pairs
+paired : (c : tie.After-loop Inv-loop μ-loop) → let s = start (c .before) in c .before .loop .j ≡ (past s - first s) / 2
+paired c = omega (arith, c .loop-test .left, c .before .loop .inv .0)
+
+summed-so-far : (c : tie.After-loop Inv-loop μ-loop) → let s = start (c .before) in let k = first s + 2 * ((past s - first s) / 2) in
+    rowSum (transfersOf (now (s .args .rs))) (now (s .args .ends)) (now (s .args .x)) (s .args .i) ≡ summed (transfersOf (now (s .args .rs))) (now (s .args .x)) (past s - k) k (heldBoth (c .before .loop .sum))
+summed-so-far c = rw (paired c) at (c .before .loop .inv .1)
+
+near : (c : tie.After-loop Inv-loop μ-loop) → NearBoth 16 (c .before .loop .sum)
+near c = near-both-more (omega (arith, paired c, few (start (c .before)))) (c .before .loop .inv .2)
+
+mul-if1 : tie.Need-mul-if1 Inv-loop μ-loop
+mul-if1 c = omega (arith, few (start (c .before)))
+
+mul-term : tie.Need-mul-term Inv-loop μ-loop
+mul-term c = omega (arith, few (start (c .before .before)))
+
+add-term : tie.Need-add-term Inv-loop μ-loop
+add-term c = let s = start (c .before .before) in omega (arith, few s, inside s, row s .forward)
+
+-- the last record
+last : (c : tie.Then1 Inv-loop μ-loop) → let s = start (c .before .before) in first s + 2 * ((past s - first s) / 2) + 1 ≡ past s
+last c = let s = start (c .before .before) in omega (arith, c .if1 .taken, row s .forward)
+
+can-last : (c : tie.Then1 Inv-loop μ-loop) → let s = start (c .before .before) in
+    Factors (s .args .n) (transfersOf (now (s .args .rs))) (s .args .above) (first s + 2 * ((past s - first s) / 2))
+can-last c = can (start (c .before .before)) _ (omega arith) (omega (arith, last c))
+
+term-requires : tie.Need-term-requires Inv-loop μ-loop
+term-requires c κs =
+    let s = start (c .before .before) in
+    ((omega (arith, last c, row s .within, length-transfers (now (s .args .rs))), s .pre .0 .0 .list, can-last c), s .pre .1)
+
+next-requires : tie.Need-next-requires Inv-loop μ-loop
+next-requires c κs =
+    let d = c .before in
+    let x = start (d .before .before) .pre .1 in
+    (near-both-more (omega arith) (near (d .before)), λ e. subst Above (sym (c .term .ensures)) (term-above (can-last d) (x .1) e (x .2 e)))
+
+returns : tie.Need-returns Inv-loop μ-loop
+returns c =
+    let t = c .before in
+    let d = t .before in
+    let a = d .before in
+    let h = last d in (
+      sym
+          (summed-so-far a ∙ summed-go _ _ _ _ _ (omega (arith, h)) ∙ summed-end _ _ _ _ _ (omega (arith, h)) ∙ sym (c .next .ensures .is ∙ ap (exactSum (heldBoth (a .before .loop .sum))) (t .term .ensures))),
+      near-both-more (omega arith) (c .next .ensures .near 16 (near a)),
+    )
+
+returns-2 : tie.Need-returns-2 Inv-loop μ-loop
+returns-2 c =
+    let a = c .before in
+    let s = start (a .before) in
+    (sym (summed-so-far a ∙ summed-end _ _ _ _ _ (omega (arith, c .if1 .left, row s .forward))), near-both-more (omega arith) (near a))
+
+pub wide-sum-spec : {M : Type 1} → statement M
+wide-sum-spec =
+    tie.close
+    (tie.spec
+    Inv-loop
+    μ-loop
+    mul-from
+    shared-slice-read-from
+    add-count
+    mul-count
+    shared-slice-read-count
+    sub-count
+    nought-requires
+    loop-holds
+    mul-next-two
+    add-next-two
+    next-two-requires
+    add-j
+    loop-less
+    loop-again
+    mul-if1
+    mul-term
+    add-term
+    term-requires
+    next-requires
+    returns
+    returns-2)
