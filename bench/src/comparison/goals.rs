@@ -223,12 +223,21 @@ pub const VATS: &str = "11 at the first, a middle, the last transfer, 1,023";
 /// Where they are for their sequence: the first one never is.
 pub const ORDERS: &str = "12 at the second, a middle, the last transfer, 1,023";
 
-/// How the library sweeps a list: put into the square, or as it is, with products by sign or
-/// with none below 0.
-pub const WAYS: [&str; 3] = [
-    "0 or 9 by the square for n",
-    "0 or 9 by rows of either sign for n",
-    "0 or 9 by rows not below 0 for n",
+/// How the library sweeps a list: with sums in one word or in two, and with products by sign
+/// or with none below 0.
+pub const WAYS: [&str; 4] = [
+    "0 or 9 in one word, either sign, for n",
+    "0 or 9 in one word, not below 0, for n",
+    "0 or 9 in two words, either sign, for n",
+    "0 or 9 in two words, not below 0, for n",
+];
+
+/// Of sums in two words: the records of row 1, and how far from 0 its sum is, which takes
+/// three of the greatest products or five.
+pub const RECORDS: &str = "0 or 9 in two words, records in row 1";
+pub const FAR: [(&str, u32, usize); 2] = [
+    ("0 or 9 with a sum beyond 2^63 for n", 63, 3),
+    ("0 or 9 with a sum beyond 2^64 for n", 64, 5),
 ];
 
 /// Of the three calls, which come together.
@@ -253,6 +262,10 @@ pub fn of_transfers() -> Vec<Goal> {
     shared.extend(single.map(Goal::once));
     let eliminate = ["5 at pivot", "6 in row"].map(at_vats).to_vec();
     let sweep = ["9 for n", "7 at vat"].into_iter().chain(WAYS).map(at_vats);
+    let far = FAR.map(|(name, _, fewest)| Goal::at(name, fewest..=MOST_EQUATIONS));
+    let sweep = sweep
+        .chain(far)
+        .chain([Goal::at(RECORDS, 0..=MOST_EQUATIONS)]);
     let sweep: Vec<_> = sweep.chain(["3 in the box", "4"].map(Goal::once)).collect();
     let calls = [
         ("eliminate_transfers", eliminate),

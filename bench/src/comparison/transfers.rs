@@ -1,17 +1,18 @@
 //! Comparing calls from a list of transfers, also with the side's own calls from the square.
 
-use super::goals::{ORDERS, VATS, WAYS};
+use super::goals::{FAR, ORDERS, RECORDS, VATS, WAYS};
 use super::lent::difference;
 use super::{Tally, Trial};
 use crate::case::{Answer, Case};
-use crate::reference::{Call, ListCall, Outcome, DONE, EMPTY, FAULTY_ALLOWANCE, FAULTY_ENDS};
-use crate::reference::{FAULTY_LENGTH, FAULTY_SIZE, RESULT_OUT_OF_RANGE, SPENT};
+use crate::reference::{intervals, Call, Interval, ListCall, Outcome, Rounding, SCALE};
+use crate::reference::{DONE, EMPTY, FAULTY_ALLOWANCE, FAULTY_ENDS, FAULTY_LENGTH, FAULTY_SIZE};
 use crate::reference::{MOST_TRANSFERS, TRANSFER, TRANSFER_ORDER, TRANSFER_VAT};
+use crate::reference::{RESULT_OUT_OF_RANGE, SPENT};
 use crate::side::{Reference, Side};
 use crate::sweep_list::Solution;
 
-/// A list is swept over its own rows if no end of a share is farther from 0: 32 products of
-/// such shares fit one word together.
+/// The sums of a list are in one word if no end of a share is farther from 0: 32 products of
+/// such shares fit it together.
 pub const SHORT: i64 = 1 << 27;
 
 /// A call with its list, which is lent in place of the matrix.
@@ -109,15 +110,26 @@ impl Transfers {
         }
     }
 
-    /// How the library sweeps a list that has passed the tests. The start box never makes
-    /// it take the square.
-    fn way(&self) -> &'static str {
+    /// How the library sweeps a list that has passed the tests; of one with sums in two words
+    /// also what it has in row 1, which is summed first and so with the start box.
+    fn way(&self) -> Vec<(&'static str, usize)> {
+        let (n, bounds) = (self.lent.n, &self.lent.bounds);
         let shares = || self.list().flat_map(|transfer| &transfer[2..]);
-        if shares().any(|end| end.abs() > SHORT) {
-            return WAYS[0];
+        let long = shares().any(|end| end.abs() > SHORT);
+        let above = shares().chain(bounds).all(|end| 0 <= *end);
+        let mut reached = vec![(WAYS[2 * usize::from(long) + usize::from(above)], n)];
+        if long {
+            let weights = intervals(bounds);
+            let first = self.list().take_while(|transfer| transfer[0] == 1);
+            let row = first.map(|t| (Interval::new(t[2], t[3]), weights[t[1] as usize - 1]));
+            let row: Vec<_> = row.collect();
+            reached.push((RECORDS, row.len()));
+            let sum = Rounding::Once.sum(row.into_iter());
+            let parts = SCALE * sum.lo.abs().max(sum.hi.abs());
+            let far = FAR.iter().filter(|(_, bits, _)| parts >> bits > 0);
+            reached.extend(far.map(|(name, ..)| (*name, n)));
         }
-        let mut all = shares().chain(&self.lent.bounds);
-        WAYS[1 + usize::from(all.all(|end| 0 <= *end))]
+        reached
     }
 
     /// 0 at the first transfer that can be refused so, 1 between, 2 at the last, 3 at 1,023.
@@ -158,12 +170,12 @@ impl Transfers {
             _ => None,
         };
         let swept = self.call != ListCall::Eliminate && [DONE, SPENT].contains(&number);
-        let way = swept.then(|| self.way());
+        let way = if swept { self.way() } else { Vec::new() };
         tally.count(number);
         for (goal, at) in [(goal, at)]
             .into_iter()
             .chain(further.map(|goal| (goal, 0)))
-            .chain(way.map(|goal| (goal, n)))
+            .chain(way)
         {
             tally.reach_by(self.call.name(), goal, at);
         }

@@ -8,7 +8,7 @@ use crate::reference::{Interval, System, LIMIT, MOST_EQUATIONS, SCALE};
 const ONE: i64 = 1_000_000;
 
 /// A share, and the weight that it is of.
-type Factors = (i64, i64);
+pub type Factors = (i64, i64);
 
 /// The vat's row has these shares, of the other vats from the first on. Each of those
 /// keeps its delivery as its weight.
@@ -23,7 +23,7 @@ fn balance(n: usize, vat: usize, row: &[Factors]) -> System {
 }
 
 /// Few factors whose products come to so many parts.
-fn coming_to(parts: i128) -> Vec<Factors> {
+pub fn coming_to(parts: i128) -> Vec<Factors> {
     let (sign, mut rest) = (parts.signum() as i64, parts.abs());
     let mut row = Vec::new();
     while rest > 0 {

@@ -1,10 +1,11 @@
 //! Calls from a list of transfers.
 
 use super::systems::faults::{set_interval, FAULTY_ENDS};
-use super::{random_cases_up_to, random_lists_up_to, Random};
+use super::{random_cases_up_to, random_lists_up_to, rows, Random};
 use crate::case::Case;
 use crate::comparison::{Transfers, SHORT};
-use crate::reference::{Call, ListCall, Pass, LIMIT, MOST_EQUATIONS, MOST_TRANSFERS, TRANSFER};
+use crate::reference::{Call, ListCall, Pass, LIMIT, SCALE};
+use crate::reference::{MOST_EQUATIONS, MOST_TRANSFERS, TRANSFER};
 use crate::samples::identity;
 use crate::sweep_list::SweepList;
 use std::iter;
@@ -23,13 +24,14 @@ const FAULTS: usize = 5;
 /// A share that reaches so far can change by itself how its list is swept.
 const ODD_ENDS: [i64; 7] = [-1, -SHORT, -SHORT - 1, -LIMIT, SHORT, SHORT + 1, LIMIT];
 
-/// First good lists, every fault and odd shares, then random lists of at most so many vats
-/// without end, always the same for the same seed.
+/// First good lists, every fault, odd shares and far sums, then random lists of at most so many
+/// vats without end, always the same for the same seed.
 pub fn transfers_up_to(most: usize, seed: u64) -> impl Iterator<Item = Transfers> {
     let whole = (1..=MOST_EQUATIONS).flat_map(|n| [good(n, n * n), good(n, 0)]);
     let edges = whole.chain(long()).chain(faulty());
     let odd = (1..=MOST_EQUATIONS).flat_map(|n| ODD_ENDS.map(|end| odd_shares(n, end)));
-    let edges = edges.flat_map(in_each_way).chain(odd.flatten());
+    let far = (1..=MOST_EQUATIONS).flat_map(far_sums);
+    let edges = edges.flat_map(in_each_way).chain(odd.flatten()).chain(far);
     let edges = edges.flat_map(|lent| {
         CALLS.map(|call| Transfers {
             call,
@@ -60,10 +62,10 @@ fn good(n: usize, count: usize) -> Case {
     }
 }
 
-/// With no share below 0, with all of them reaching below 0, and with all too far for a word:
-/// lists are swept in three ways. What is faulty stays so.
-fn in_each_way(lent: Case) -> [Case; 3] {
-    [(0, 0), (-1, 0), (-1, SHORT + 1)].map(|(lower, upper)| {
+/// With no share below 0 or with all of them reaching below 0, near enough for sums in one
+/// word or not: lists are swept in four ways. What is faulty stays so.
+fn in_each_way(lent: Case) -> [Case; 4] {
+    [(0, 0), (-1, 0), (0, SHORT + 1), (-1, SHORT + 1)].map(|(lower, upper)| {
         let mut lent = lent.clone();
         for transfer in lent.matrix.chunks_exact_mut(TRANSFER) {
             if transfer[2] == -1 {
@@ -92,6 +94,29 @@ fn odd_shares(n: usize, end: i64) -> impl Iterator<Item = Case> {
         }
         lent.bounds = ends.repeat(n);
         lent
+    })
+}
+
+/// What vat 1 gets comes to a multiple of 2^63 parts and a unit at its upper end, with no share
+/// below 0; or the multiple is taken away again. Without the multiple it would be a unit.
+fn far_sums(n: usize) -> impl Iterator<Item = Case> {
+    let both = (1..=13).flat_map(|multiple| [false, true].map(|away| (multiple << 63, away)));
+    both.filter_map(move |(far, away): (i128, bool)| {
+        let back = if away { -far } else { 0 };
+        let row = [far + SCALE, back].map(rows::coming_to).concat();
+        if n <= row.len() {
+            return None;
+        }
+        let mut lent = good(n, 0);
+        for (vat, (share, weight)) in (1..).zip(row) {
+            let [shares, weights] = [share, weight].map(|end| [if away { end } else { 0 }, end]);
+            lent.matrix.extend([1, vat as i64 + 1]);
+            lent.matrix.extend(shares);
+            lent.bounds[2 * vat..][..2].copy_from_slice(&weights);
+        }
+        lent.right_side.clone_from(&lent.bounds);
+        lent.right_side[..2].fill(0);
+        Some(lent)
     })
 }
 
@@ -172,7 +197,8 @@ fn listed(random: &mut Random, drawn: SweepList) -> Transfers {
     lent.matrix = list_of(random, &lent.matrix, thin);
     let way = random.below(3);
     if solution.is_none() && way < 2 {
-        shorten(random, &mut lent, way == 1);
+        let most = random.pick(&[SHORT, SHORT, LIMIT]);
+        bring_near(random, &mut lent, most, way == 1);
     }
     if random.once_in(3) {
         spoil_some(random, &mut lent);
@@ -185,16 +211,16 @@ fn listed(random: &mut Random, drawn: SweepList) -> Transfers {
     }
 }
 
-/// So that the list is swept over its rows: with the signs as they are, or with no share below
-/// 0 nor the box, as in a cellar. Often all shares and boxes are as far as can be, and often
-/// one share is odd.
-fn shorten(random: &mut Random, lent: &mut Case, signed: bool) {
+/// With no share farther than `most`: with the signs as they are, or with no share below 0 nor
+/// the box, as in a cellar. Often all shares and boxes are as far as can be, and often one
+/// share is odd.
+fn bring_near(random: &mut Random, lent: &mut Case, most: i64, signed: bool) {
     let far = random.once_in(4);
     for transfer in lent.matrix.chunks_exact_mut(TRANSFER) {
         for end in &mut transfer[2..] {
-            let reach = if far { SHORT } else { end.saturating_abs() };
-            let short = end.signum() * reach.min(SHORT);
-            *end = if signed { short } else { short.abs() };
+            let reach = if far { most } else { end.saturating_abs() };
+            let near = end.signum() * reach.min(most);
+            *end = if signed { near } else { near.abs() };
         }
         transfer[2..].sort_unstable();
     }
@@ -203,7 +229,7 @@ fn shorten(random: &mut Random, lent: &mut Case, signed: bool) {
         *end = if signed { wide } else { wide.max(0) };
     }
     let count = lent.matrix.len() / TRANSFER;
-    if count > 0 && random.once_in(3) {
+    if count > 0 && random.once_in(2) {
         let any = random.below(count as u64) as usize;
         let place = random.pick(&[0, any, any, count - 1]);
         reach_to(&mut lent.matrix[TRANSFER * place..], random.pick(&ODD_ENDS));
