@@ -113,10 +113,42 @@ pub fn wide(n: usize) -> Case {
     let mut case = mixed(n);
     let ends = case.matrix.iter_mut();
     ends.for_each(|end| *end *= 400 * n as i64);
-    case.matrix[2 * n * (n - 1)..].fill(0);
-    case.right_side[2 * n - 2..].fill(0);
     case.bounds = [-LIMIT, LIMIT].repeat(n);
-    case.bounds[2 * n - 2..].copy_from_slice(&[0, 5]);
+    with_last_of(case, &emptied(n))
+}
+
+/// As `wide`, with no share and no box below 0, and with sums past 2^63 parts.
+pub fn far(n: usize) -> Case {
+    let mut case = shares(n);
+    let ends = case.matrix.iter_mut();
+    ends.for_each(|end| *end = *end * 500 * n as i64 + 1_500 * ONE);
+    case.right_side.fill(0);
+    case.bounds = (1..=n as i64)
+        .flat_map(|vat| [0, LIMIT - 20 * ONE * vat])
+        .collect();
+    with_last_of(case, &emptied(n))
+}
+
+/// `wide` or `far`, with the last vat as in `slow_noughts`.
+pub fn slowly(case: Case) -> Case {
+    let slow = slow_noughts(case.n);
+    with_last_of(case, &slow)
+}
+
+/// Nothing is given, and the box of each vat is to become 0.
+fn emptied(n: usize) -> Case {
+    let mut case = Case::new(&System::noughts(n));
+    case.bounds = [0, 5].repeat(n);
+    case
+}
+
+/// With the last vat of another balance of as many vats.
+fn with_last_of(mut case: Case, other: &Case) -> Case {
+    let last = 2 * (case.n - 1);
+    let row = last * case.n;
+    case.matrix[row..].copy_from_slice(&other.matrix[row..]);
+    case.right_side[last..].copy_from_slice(&other.right_side[last..]);
+    case.bounds[last..].copy_from_slice(&other.bounds[last..]);
     case
 }
 

@@ -1,8 +1,8 @@
 //! What is done by both sides.
 
 use crate::balances::{
-    heavy_row, listed, longest, mixed, noughts, shares, slow, slow_noughts, thinned, wide,
-    with_wide_box,
+    far, heavy_row, listed, longest, mixed, noughts, shares, slow, slow_noughts, slowly, thinned,
+    wide, with_wide_box,
 };
 use kifwaleb::{HalfRows, LOWEST};
 use kifwaleb_bench::archive::Archive;
@@ -30,7 +30,7 @@ pub enum Side {
 /// What a task is called, and how it is made for so many vats.
 pub type Kind = (&'static str, fn(usize) -> Task);
 
-pub const KINDS: [Kind; 35] = [
+pub const KINDS: [Kind; 38] = [
     ("eliminate-shares", |n| Task::Eliminate(shares(n))),
     ("eliminate-mixed", |n| Task::Eliminate(mixed(n))),
     ("start-shares", |n| Task::Start(shares(n))),
@@ -96,6 +96,9 @@ pub const KINDS: [Kind; 35] = [
     }),
     ("full-mixeds", |n| Task::full(slow(mixed(n - 1)), SWEEPS)),
     ("full-wide", |n| Task::full(wide(n), ONE_SWEEP)),
+    ("full-wides", |n| Task::full(slowly(wide(n)), SWEEPS)),
+    ("full-far", |n| Task::full(far(n), ONE_SWEEP)),
+    ("full-fars", |n| Task::full(slowly(far(n)), SWEEPS)),
     ("read-longest", |n| Task::report(&crossed(longest(n)))),
     ("read-noughts", |n| {
         Task::on_text(short_named_text(&crossed(noughts(n))))
@@ -405,6 +408,19 @@ mod tests {
             let few = kind.starts_with("list").then_some([16, 64, 64, 64]);
             let full = kind.starts_with("full").then_some([16, 64, 256, 1_024]);
             assert_eq!(counts, few.or(full).unwrap_or_default(), "{kind}");
+        }
+    }
+
+    /// In all rows but the last.
+    #[test]
+    fn far_sums_do_not_fit_a_word() {
+        for case in [4, 8, 16, 32].map(|n| slowly(far(n))) {
+            let n = case.n;
+            for row in case.matrix.chunks_exact(2 * n).take(n - 1) {
+                let both = row.iter().zip(&case.bounds).skip(1).step_by(2);
+                let sum: i128 = both.map(|(a, x)| i128::from(*a) * i128::from(*x)).sum();
+                assert!(sum >> 63 > 0, "{n} vats");
+            }
         }
     }
 
