@@ -110,12 +110,13 @@ fn kind(entries: &[Entry]) -> String {
     }
 }
 
-/// Number and place; of a sweep call whether its count is above 1 instead, since
-/// a list of calls has many ways to end.
+/// Number and place; of a sweep call also whether its count is above 1. Those that come in
+/// lists of calls are taken without the place, since a list has many ways to end.
 fn ending(line: &str) -> String {
     let words: Vec<_> = line.split(' ').collect();
     match words[1] {
-        "S" | "Y" | "G" | "H" => format!("{}{}{}", words[1], words[2], words[4] > "1"),
+        "S" | "Y" => format!("{}{}{}", words[1], words[2], words[4] > "1"),
+        "G" | "H" => format!("{} {}", words[1..4].join(" "), words[4] > "1"),
         _ => words[1..4].join(" "),
     }
 }
@@ -229,12 +230,19 @@ fn halves() -> Vec<Entry> {
     all
 }
 
-/// Few vats, and then as many transfers as there may be, and one more, for all three calls.
+/// Few vats; a few more with sums in two words, so that rows have several pairs of records; and
+/// then as many transfers as there may be, and one more, for all three calls.
 fn transfers() -> Vec<Entry> {
     let calls = || transfers_up_to(FEW_VATS, SEED);
     let few = calls().filter(|listed| has_few_vats(&listed.lent));
     let entries = |listed: Transfers| vec![Entry::List(listed.lent), Entry::Transfers(listed.call)];
-    let mut all = chosen(few.take(RANDOM).map(entries).collect(), 3, 60_000);
+    let mut all = chosen(few.take(RANDOM).map(entries).collect(), 3, 80_000);
+    let two_words = calls().filter(|listed| {
+        let vats = FEW_VATS..=FEW_VATS + 2;
+        vats.contains(&listed.lent.n) && listed.takes_two_words()
+    });
+    let two_words = two_words.take(RANDOM / 10).map(entries);
+    all.extend(chosen(two_words.collect(), 4, 40_000));
     for (n, count) in [(MOST_EQUATIONS, MOST_TRANSFERS), (1, MOST_TRANSFERS + 1)] {
         let long = |lent: &Case| lent.n == n && lent.matrix.len() == count * TRANSFER;
         let three = calls().filter(|listed| long(&listed.lent)).take(3);

@@ -64,6 +64,15 @@ impl Transfers {
         self.lent.matrix.chunks_exact(TRANSFER)
     }
 
+    /// The ends of all shares.
+    fn shares(&self) -> impl Iterator<Item = &i64> {
+        self.list().flat_map(|transfer| &transfer[2..])
+    }
+
+    pub fn takes_two_words(&self) -> bool {
+        self.shares().any(|end| end.unsigned_abs() > SHORT as u64)
+    }
+
     /// Where a transfer stands in the square.
     fn position(&self, transfer: &[i64]) -> usize {
         let [receiver, giver] = [transfer[0], transfer[1]].map(|vat| vat as usize);
@@ -114,11 +123,10 @@ impl Transfers {
     /// also what it has in row 1, which is summed first and so with the start box.
     fn way(&self) -> Vec<(&'static str, usize)> {
         let (n, bounds) = (self.lent.n, &self.lent.bounds);
-        let shares = || self.list().flat_map(|transfer| &transfer[2..]);
-        let long = shares().any(|end| end.abs() > SHORT);
-        let above = shares().chain(bounds).all(|end| 0 <= *end);
-        let mut reached = vec![(WAYS[2 * usize::from(long) + usize::from(above)], n)];
-        if long {
+        let two_words = self.takes_two_words();
+        let above = self.shares().chain(bounds).all(|end| 0 <= *end);
+        let mut reached = vec![(WAYS[2 * usize::from(two_words) + usize::from(above)], n)];
+        if two_words {
             let weights = intervals(bounds);
             let first = self.list().take_while(|transfer| transfer[0] == 1);
             let row = first.map(|t| (Interval::new(t[2], t[3]), weights[t[1] as usize - 1]));
