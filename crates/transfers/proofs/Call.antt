@@ -25,7 +25,6 @@ use Rattle.sweep.specs.Calls.{Call, sweepCall, symmetricCall, runBy, returnedBy
 use Rattle.sweep.specs.Code.{pass, Ran}
 use Rattle.sweep.specs.declared.Swept.{Swept}
 use Rattle.sweep.proofs.Turns.{pass-sweep, pass-symmetric}
-use Rattle.transfers.specs.declared.Transfer.{Transfer}
 use Rattle.transfers.specs.Listing.{Listing, sizes, entries, shares, intervals, filled, square, squared}
 use Rattle.transfers.specs.Call.{tests, sweepTests, runList, overList, sweepList, callList}
 use Rattle.transfers.specs.Code.{judgement, Entered, listOver}
@@ -61,11 +60,6 @@ module _ (s : Listing) (ps : List Part) where
         → both (entries (s .size) (s .transfers)) (intervals s ps) ≡ allProper (length (s .transfers) + s .size) ps
     unfolding both allProper
     right-goes f = together ∙ rw (e, f)
-
--- the square, from what was put into noughts
-pub square-is : {n : ℕ} {ts : List Transfer} {before after : List ℤ} {r : Test} → Entered n ts before r after → r ≡ Pass → before ≡ replicate (2 * (n * n)) (pos 0) → after ≡ square n ts
-unfolding square
-square-is {n} {ts} e p b = e .matrix p ∙ ap (filled n ts (length ts) 0) b
 
 -- the working copy, from what was put into noughts and the right side behind it
 pub copied-is : (s : Listing) {before t₁ t₂ : List ℤ} {r : Test} → s .size ≤ 32 → Entered (s .size) (s .transfers) before r t₁ → r ≡ Pass → before ≡ replicate 2_112 (pos 0)

@@ -51,6 +51,9 @@ later first (pos m) f a = record { is = refl; past = leb-true (suc first) m a; f
     few h = let k = h .sfits in omega (arith, k)
 later first (negsuc m) f a = absurd (subst T (sym a) tt)
 
+pub later-tested : {first : ℕ} {v : ℤ} → Later first v → ltZ (pos first) v ≡ true
+later-tested {first} {v} l = rw (l .is) (le-leb (suc first) (natAbs v) (l .past))
+
 -- and at most n
 pub later-component : (n : ℕ) {first : ℕ} {v : ℤ} → Later first v → natAbs v ≤ n → isComponent n v ≡ true
 unfolding isComponent

@@ -51,6 +51,21 @@ module _ (n : ℕ) (ts : List Transfer) (count k next : ℕ) where
         unfolding allGood
         good-go a = rw (left, v, le-leb next (placeOf n (nth ts k)) l, a)
 
+    -- what it says of the record k
+    pub record First : Type 0 where
+      pub components : bothComponents n (nth ts k) ≡ true
+      pub place : next ≤ placeOf n (nth ts k)
+      pub proper : acceptable (share (nth ts k)) ≡ true
+      pub rest : allGood n ts (count - (k + 1)) (k + 1) (placeOf n (nth ts k) + 1) ≡ true
+
+    pub good-first : allGood n ts (count - k) k next ≡ true → First
+    unfolding allGood
+    good-first e =
+        let v = and-both (bothComponents n (nth ts k)) _ (rw left at e) in
+        let l = and-both (leb next (placeOf n (nth ts k))) _ (v .1) in
+        let a = and-both (acceptable (share (nth ts k))) _ (l .1) in
+        record { components = v .0; place = leb-true next (placeOf n (nth ts k)) (l .0); proper = a .0; rest = a .1 }
+
 -- ---- what it says of the records k, k + 1, .., d of them
 module _ (n : ℕ) (ts : List Transfer) where
   abbrev P : ℕ → ℕ

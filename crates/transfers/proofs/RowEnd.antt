@@ -5,25 +5,27 @@ use mathlib.Core.List.{List}
 use Prim.Native.Nat.{ℕ, zero, suc, _+_, _-_, _*_, _≤_, _<_}
 use native.Mathlib.Omega.{arith}
 use native.Mathlib.Decide.{decLt}
+use native.Mathlib.Nat.{add-mul, one-mul}
 use borrow.Author.Tests.{le-leb, leb-true}
 use lib.Dec.{leb}
 use lib.IntN.{pos, natAbs}
 use lib.ListN.{length, set, length-set}
 use lib.Seq.{getD-set-same, getD-set-other}
-use lib.Signed.{_≤ℤ_, ≤ℤ-refl}
+use lib.Signed.{_≤ℤ_, leZ, leZ-yes, ≤ℤ-refl}
 use Rattle.integer.proofs.Order.{trans}
-use Rattle.integer.proofs.Extremes.{min-le-left, min-le-right, le-max-left, le-max-right}
+use Rattle.integer.proofs.Extremes.{min-le-left, min-le-right, le-max-left, le-max-right, le-min, max-le}
 use Rattle.interval.specs.declared.Interval.{Interval}
-use Rattle.interval.specs.Interval.{acceptable}
-use Rattle.interval.proofs.Range.{and-both, sound-accepted}
+use Rattle.interval.specs.Interval.{zero as nought, lowest, highest, inRange, acceptable}
+use Rattle.interval.proofs.Range.{Sound, and-both, is-sound, sound-accepted}
 use Rattle.inputs.specs.Place.{cell}
 use Rattle.inputs.proofs.Tests.{rows-apart}
 use Rattle.transfers.specs.declared.Transfer.{Transfer}
 use Rattle.transfers.specs.Listing.{nth, share, isComponent, bothComponents, placeOf}
 use Rattle.transfers.specs.Code.{allGood}
 use Rattle.transfers.specs.Rows.{Holds, hull, InRange, Later, InRow, RowOf, Rows, end}
-use Rattle.transfers.proofs.Component.{component, component-row, giver, later-component}
-use Rattle.transfers.proofs.Good.{good-go}
+use Rattle.transfers.proofs.Component.{Component, component, component-row, receiver, giver, later-component}
+use Rattle.transfers.proofs.Good.{good-end, good-go, First, good-first}
+use Rattle.transfers.proofs.Square.{place-below}
 
 -- ---- hulls
 pub holds-self : (h : Interval) → Holds h h
@@ -139,6 +141,116 @@ module _ (n : ℕ) (ts : List Transfer) (i from : ℕ) where
           each = s .each c;
           good = λ r e. let q = rows-apart n i (i + 1) (omega arith) in s .good c r (good-sooner n ts (length ts - k) k (omega (arith, q, c)) e);
         }
+
+-- ---- good records stand in rows
+module _ (n : ℕ) (ts : List Transfer) (few : n ≤ 32) where
+  module _ (i k passed : ℕ) (a : i < n) (b : k < length ts) (f : First n ts (length ts) k (i * n + passed) b) where
+    abbrev its : Transfer
+    its = nth ts k
+
+    abbrev receiving : Component n (its .receiver)
+    receiving = component n (its .receiver) (receiver n its (f .components))
+
+    abbrev giving : Component n (its .giver)
+    giving = component n (its .giver) (giver n its (f .components))
+
+    place-is : placeOf n its ≡ receiving .row * n + giving .row
+    unfolding placeOf
+    place-is = rw (component-row receiving, component-row giving)
+
+    abs-is : natAbs (its .giver) ≡ giving .row + 1
+    abs-is = ap natAbs (giving .is)
+
+    -- a record with the row's number goes on with it
+    module _ (e : its .receiver ≡ pos (i + 1)) where
+      own-row : receiving .row ≡ i
+      own-row = let z : i + 1 - 1 ≡ i = omega arith in sym (component-row receiving) ∙ ap (λ v. natAbs v - 1) e ∙ z
+
+      next-place : placeOf n its + 1 ≡ i * n + natAbs (its .giver)
+      next-place = rw (abs-is, place-is, own-row) (omega arith)
+
+      pub good-later : Later passed (its .giver)
+      good-later =
+          let p : i * n + passed ≤ i * n + giving .row = rw (place-is, own-row) at (f .place) in
+          record { is = giving .is ∙ ap pos (sym abs-is); past = omega (arith, p, abs-is); few = omega (arith, abs-is, giving .below) }
+
+      pub good-column : natAbs (its .giver) ≤ n
+      good-column = omega (arith, abs-is, giving .below)
+
+      pub good-rest : allGood n ts (length ts - (k + 1)) (k + 1) (i * n + natAbs (its .giver)) ≡ true
+      good-rest = rw next-place at (f .rest)
+
+    pub good-order : its .lo ≤ℤ its .hi
+    good-order = is-sound _ (f .proper) .order
+
+    pub good-range : {h : Interval} → InRange h → InRange (hull h (share its))
+    unfolding hull
+    good-range {h} w = let v = is-sound _ (f .proper) in record { low = le-min (h .lo) (its .lo) _ (w .low) (v .lo-in .low); high = max-le (h .hi) (its .hi) _ (w .high) (v .hi-in .high) }
+
+    -- one with another number stands in a later row
+    pub good-past : (its .receiver ≡ pos (i + 1) → ⊥) → allGood n ts (length ts - k) k ((i + 1) * n) ≡ true
+    good-past d = good-go n ts (length ts) k ((i + 1) * n) b (f .components) (further (decLt i (receiving .row)) (decLt (receiving .row) i)) (f .proper) ∙ f .rest
+      where
+        further : Dec (i < receiving .row) → Dec (receiving .row < i) → (i + 1) * n ≤ placeOf n its
+        further (yes l) _ =
+            let q = rows-apart n i (receiving .row) l in
+            let z : (i + 1) * n ≡ i * n + n = rw (add-mul i 1 n, one-mul n) in
+            rw (z, place-is) (omega (arith, q))
+        further (no l) (yes m) =
+            let q = rows-apart n (receiving .row) i m in
+            let p : i * n + passed ≤ receiving .row * n + giving .row = rw place-is at (f .place) in
+            absurd (omega (arith, q, p, giving .below))
+        further (no l) (no m) = let z : receiving .row ≡ i = omega (arith, l, m) in absurd (d (receiving .is ∙ ap (λ j. pos (j + 1)) z))
+
+  -- ---- row i so far, from one record on and after shares with the hull held: if the records from there on are good, then so are columns and shares, and the records that are left
+  module _ (i from : ℕ) (held : Interval) where
+    pub record Kept (k passed : ℕ) (h : Interval) : Type 0 where
+      pub is : InRange held → allGood n ts (length ts - from) from (i * n) ≡ true → (passed ≤ n) × InRange h × (allGood n ts (length ts - k) k (i * n + passed) ≡ true)
+
+    pub kept-start : Kept from 0 held
+    kept-start = record { is = λ r e. let z : i * n + 0 ≡ i * n = omega arith in (omega arith, r, rw z e) }
+
+    module _ {k passed : ℕ} {h : Interval} (w : Kept k passed h) where
+      -- at the end of the list, or before a record of another row
+      pub kept-last : length ts ≤ k → InRange held → allGood n ts (length ts - from) from (i * n) ≡ true
+          → (passed ≤ n) × InRange h × (allGood n ts (length ts - k) k ((i + 1) * n) ≡ true)
+      kept-last l r e = let v = w .is r e in (v .0, v .1, good-end n ts (length ts) k ((i + 1) * n) l)
+
+      module _ (a : i < n) (b : k < length ts) where
+        first-of : InRange held → allGood n ts (length ts - from) from (i * n) ≡ true → First n ts (length ts) k (i * n + passed) b
+        first-of r e = good-first n ts (length ts) k (i * n + passed) b (w .is r e .2)
+
+        pub kept-past : (nth ts k .receiver ≡ pos (i + 1) → ⊥) → InRange held → allGood n ts (length ts - from) from (i * n) ≡ true
+            → (passed ≤ n) × InRange h × (allGood n ts (length ts - k) k ((i + 1) * n) ≡ true)
+        kept-past d r e = let v = w .is r e in (v .0, v .1, good-past i k passed a b (first-of r e) d)
+
+        -- a record of the row goes on with it
+        module _ (q : nth ts k .receiver ≡ pos (i + 1)) where
+          pub kept-goes : InRange held → allGood n ts (length ts - from) from (i * n) ≡ true → Later passed (nth ts k .giver) × (nth ts k .lo ≤ℤ nth ts k .hi)
+          kept-goes r e = (good-later i k passed a b (first-of r e) q, good-order i k passed a b (first-of r e))
+
+          pub kept-more : Kept (k + 1) (natAbs (nth ts k .giver)) (hull h (share (nth ts k)))
+          kept-more =
+              record {
+                is = λ r e.
+                    let f = first-of r e in
+                    (good-column i k passed a b f q, good-range i k passed a b f (w .is r e .1), good-rest i k passed a b f q);
+              }
+
+  -- no record stands past the last row
+  pub none-past : (k : ℕ) → allGood n ts (length ts - k) k (n * n) ≡ true → length ts ≤ k
+  none-past k e = go (decLt k (length ts))
+    where
+      go : Dec (k < length ts) → length ts ≤ k
+      go (no h) = omega (arith, h)
+      go (yes h) = let f = good-first n ts (length ts) k (n * n) h e in let b = place-below n (nth ts k) (f .components) in absurd (omega (arith, b, f .place))
+
+-- the hull of shares in the range is in the range, as a test of both its ends has it
+pub range-tested : (h : Interval) → InRange h → Holds h nought → inRange h ≡ true
+unfolding acceptable lowest highest
+range-tested h w z =
+    let v : Sound h = record { order = trans (z .low) (z .high); lo-in = record { low = w .low; high = trans (z .low) (leZ-yes tt) }; hi-in = record { low = trans (leZ-yes tt) (z .high); high = w .high } } in
+    and-both (leZ (h .lo) (h .hi)) (inRange h) (sound-accepted h v) .1
 
 pub row-wider : {n : ℕ} {ts : List Transfer} {i k e : ℕ} {g h : Interval} → Holds g h → RowOf n ts i h k e → RowOf n ts i g k e
 row-wider a w =

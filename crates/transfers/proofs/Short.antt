@@ -4,7 +4,7 @@ use mathlib.Core.Bool.{true, false}
 use Prim.Native.Nat.{ℕ, _+_, _*_, _≤_}
 use native.Mathlib.Omega.{arith}
 use lib.IntN.{ℤ, pos, negℤ, _*ℤ_}
-use lib.Signed.{_≤ℤ_, leZ, ltZ, leZ-yes}
+use lib.Signed.{_≤ℤ_, leZ, ltZ}
 use Rattle.integer.proofs.Linear.{linear, over}
 use Rattle.integer.proofs.Order.{left, le-taken, trans, also, prod}
 use Rattle.interval.specs.declared.Interval.{Interval}

@@ -50,7 +50,7 @@ noughts n i = go (decLt i n)
     go (yes h) = getD-replicate n i (pos 0) (pos 0) h
     go (no h) = List·getD-eq-default (replicate n (pos 0)) (pos 0) {n = i} (rw (length-replicate n (pos 0)) (omega (arith, h)))
 
-pub take-noughts : (m n : ℕ) → m ≤ n → take m (replicate n (pos 0)) ≡ replicate m (pos 0)
+take-noughts : (m n : ℕ) → m ≤ n → take m (replicate n (pos 0)) ≡ replicate m (pos 0)
 take-noughts zero n h = refl
 take-noughts (suc m) zero h = absurd (omega arith)
 take-noughts (suc m) (suc n) h = ap (λ l. pos 0 ∷ l) (take-noughts m n (omega arith))
@@ -115,7 +115,7 @@ module _ (n : ℕ) (ts : List Transfer) where
       ap (filled n ts (length ts) 0) (sym (take-append-drop k z) ∙ ap (λ l. l ++ drop k z) (take-noughts k m h))
       ∙ filled-before (length ts) 0 (replicate k (pos 0)) (drop k z) (all-fit p) (length-replicate k (pos 0))
 
-pub sound-proper : (t : List ℤ) (d from : ℕ) → Sound t → proper t d 0 from ≡ Pass
+sound-proper : (t : List ℤ) (d from : ℕ) → Sound t → proper t d 0 from ≡ Pass
 sound-proper t d from s = proper-all t d 0 from (λ k h. s .each (0 + k))
 
 -- ---- the tests of the square

@@ -9,18 +9,18 @@ use lib.Signed.{_≤ℤ_}
 use Rattle.integer.specs.Extremes.{minimum, maximum}
 use Rattle.interval.specs.declared.Interval.{Interval}
 use Rattle.interval.specs.Interval as interval
+use Rattle.inputs.specs.declared.Test.the-variants.{Fail}
 use Rattle.inputs.specs.Place.{at}
-use Rattle.inputs.specs.Code.{Sound}
 use Rattle.rows.specs.Word.{NoneBelow}
 use Rattle.sweep.specs.Code.{Ready}
 use Rattle.transfers.specs.declared.Transfer.{Transfer}
 use Rattle.transfers.specs.declared.internal.found.Row.{Row}
 use Rattle.transfers.specs.declared.internal.found.Found.{Found}
 use Rattle.transfers.specs.declared.internal.listed.Known.{Known}
-use Rattle.transfers.specs.declared.internal.calls.Way.{Way}
-use Rattle.transfers.specs.declared.internal.calls.Way.the-variants as way
-use Rattle.transfers.specs.Listing.{Listing, nth, share, isComponent, bothComponents, square, transfersOf}
-use Rattle.transfers.specs.Code.{allGood}
+use Rattle.transfers.specs.declared.internal.found.Tried.{Tried}
+use Rattle.transfers.specs.declared.internal.found.Tried.the-variants as tried
+use Rattle.transfers.specs.Listing.{nth, share, isComponent, bothComponents, square, transfersOf}
+use Rattle.transfers.specs.Code.{allGood, judgement}
 
 -- ---- the hull of shares: what holds them all
 pub record Holds (h v : Interval) : Type 0 where
@@ -61,10 +61,12 @@ pub record RowOf (n : ℕ) (ts : List Transfer) (i : ℕ) (h : Interval) (k e : 
   pub each : (j : ℕ) → k ≤ j → j < e → InRow n i h (nth ts j)
   pub good : InRange h → allGood n ts (length ts - e) e ((i + 1) * n) ≡ true → allGood n ts (length ts - k) k (i * n) ≡ true
 
--- an end that is not past the list is that of the row, if the row's columns are in the square
+-- an end that is not past the list is that of the row, if the row's columns are in the square; and if the records from k on are good, then so are end, columns and shares, and the records from the end on
 pub record RowEnd (n : ℕ) (ts : List Transfer) (i : ℕ) (h : Interval) (k : ℕ) (r : Row) : Type 0 where
   pub held : Holds (r .hull) h
   pub is : r .end ≤ length ts → r .columns ≤ n → RowOf n ts i (r .hull) k (r .end)
+  pub passes : InRange h → allGood n ts (length ts - k) k (i * n) ≡ true
+      → (r .end ≤ length ts) × (r .columns ≤ n) × InRange (r .hull) × (allGood n ts (length ts - r .end) (r .end) ((i + 1) * n) ≡ true)
 
 abbrev pub end : List ℕ → ℕ → ℕ
 end ends i = getD ends i 0
@@ -74,8 +76,15 @@ pub record Rows (n : ℕ) (ts : List Transfer) (ends : List ℕ) (h : Interval) 
   pub last : end ends n ≡ length ts
   pub row : (i : ℕ) → i < n → RowOf n ts i h (end ends i) (end ends (i + 1))
 
+-- found whole exactly if all records are good
 pub record AllRows (n : ℕ) (ts : List Transfer) (ends : List ℕ) (f : Found) : Type 0 where
   pub is : f .whole ≡ true → Rows n ts ends (f .hull) × InRange (f .hull)
+  pub passes : allGood n ts (length ts) 0 0 ≡ true → f .whole ≡ true
+
+-- what the tests of the records said
+abbrev pub Told : (n : ℕ) (ts : List Transfer) (ends : List ℕ) → Tried → Type 0
+Told n ts ends (tried.Rows h) = Rows n ts ends h × InRange h
+Told n ts ends (tried.Fail o) = judgement n ts ≡ Fail o
 
 -- rows with shares in the range; if short is true, their sums fit one word, and if above is, no share is below 0
 pub record Summable (n : ℕ) (ts : List Transfer) (ends : List ℕ) (short above : Bool) : Type 0 where
@@ -96,17 +105,6 @@ pub record Listed (n : ℕ) (rs : List (List ℤ)) (ends : List ℕ) (known : Kn
   pub listed : InRows n rs ends (known .short) (known .above)
   pub ready : Ready n (square n (transfersOf rs)) r x
   pub box : known .above ≡ true → NoneBelow x
-
--- a list that passed all tests of intervals and stands in rows
-pub record Plain (s : Listing) (X : List ℤ) (ends : List ℕ) (known : Known) : Type 0 where
-  pub right : Sound (s .right)
-  pub box : Sound X
-  pub sums : Summable (s .size) (s .transfers) ends (known .short) (known .above)
-  pub components : known .above ≡ true → NoneBelow X
-
-abbrev pub Chosen : (s : Listing) (X : List ℤ) (ends : List ℕ) → Way → Type 0
-Chosen s X ends (way.Rows known) = Plain s X ends known
-Chosen s X ends way.Square = Unit {0}
 
 -- ---- sums
 -- the record k can be multiplied with a component; if above is true, its share is not below 0

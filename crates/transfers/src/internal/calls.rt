@@ -1,8 +1,9 @@
 // The calls over records as four numbers each.
-use crate::internal::found::find_rows;
+use crate::internal::found::Tried;
 use crate::internal::found::is_short;
+use crate::internal::found::tried_rows;
 use crate::internal::listed::Known;
-use crate::internal::passes;
+use crate::internal::passes::run;
 use crate::internal::square::enter;
 use crate::internal::tests::sizes;
 use elimination::internal::solve::solve_formed;
@@ -13,13 +14,12 @@ use interval::Interval;
 use outcome::Outcome;
 use rows::internal::word::all_above;
 use sweep::Swept;
-use sweep::internal::calls::run;
 use sweep::internal::tests::budget;
 ghost use mathlib.Core.Path.{_≡_};
 ghost use mathlib.Core.Bool.{true};
 ghost use Prim.Native.Nat.{_*_, _≤_};
 ghost use lib.IntN.{pos};
-ghost use lib.ListN.{length, replicate, getD};
+ghost use lib.ListN.{length, replicate};
 ghost use lib.Signed.{_≤ℤ_};
 ghost use Rattle.outcome.specs.Run.{returned};
 ghost use Rattle.inputs.specs.Code.{Sound};
@@ -30,7 +30,7 @@ ghost use Rattle.sweep.specs.Calls.{sweepCall, symmetricCall};
 ghost use Rattle.transfers.specs.Listing.{listing, sizes, transfersOf};
 ghost use Rattle.transfers.specs.Call.{overList, callList};
 ghost use Rattle.transfers.specs.Code.{listOver};
-ghost use Rattle.transfers.specs.Rows.{Short, Chosen};
+ghost use Rattle.transfers.specs.Rows.{InRange, Short, Rows};
 
 // Elimination after tests 1 and 2, in a working copy of noughts.
 fn eliminate_in(n: usize, rs: &[[i64; 4]], t: &mut [i64], b: &[i64], bounds: &mut [i64]) -> Outcome
@@ -75,44 +75,6 @@ fn refused(o: Outcome) -> Swept
     }
 }
 
-// Sweeps after tests 1, 2 and 4, in the room of a square of noughts.
-fn sweep_in(
-    n: usize,
-    halves: usize,
-    rs: &[[i64; 4]],
-    square: &mut [i64],
-    b: &[i64],
-    bounds: &mut [i64],
-    allowed: usize,
-) -> Swept
-    requires { ⌜ (sizes (listing n (transfersOf (now rs)) (now b)) (length (now bounds)) ≡ Pass) × (now square ≡ replicate (2 * (n * n)) (pos 0)) ⌝ }
-    requires { ⌜ (allowance allowed ≡ Pass) × (halves ≤ 2) ⌝ }
-    ensures { λ s. ⌜
-        returned (s .outcome) (s .count) (now (bounds .exit)) ≡
-        listOver halves (listing n (transfersOf (now (rs .entry))) (now (b .entry))) allowed (now (bounds .entry))
-        ⌝ }
-{
-    let e = enter(n, rs, square);
-    if let Test::Fail(o) = e {
-        return refused(o);
-    }
-    let r = intervals(b, n, rs.len());
-    if let Test::Fail(o) = r {
-        return refused(o);
-    }
-    let x = intervals(bounds, n, rs.len() + n);
-    if let Test::Fail(o) = x {
-        return refused(o);
-    }
-    run(n, halves, square, b, bounds, allowed)
-}
-
-// Over what sweeps go: the rows of the list, with what is known of them; or its square.
-enum Way {
-    Rows(Known),
-    Square,
-}
-
 // Whether no share with this hull is below 0, and no component.
 fn are_above(h: Interval, x: &[i64], n: usize) -> bool
     requires { ⌜ (length (now x) ≡ 2 * n) × (n ≤ 32) × Sound (now x) ⌝ }
@@ -134,26 +96,34 @@ fn known_of(h: Interval, x: &[i64], n: usize) -> Known
     Known { short, above }
 }
 
-// The rows, if all tests pass; then ends has where they end.
-fn choose(n: usize, rs: &[[i64; 4]], b: &[i64], bounds: &[i64], ends: &mut [usize]) -> Way
-    requires { ⌜ sizes (listing n (transfersOf (now rs)) (now b)) (length (now bounds)) ≡ Pass ⌝ }
-    requires { ⌜ (length (now ends) ≡ 33) × (getD (now ends) 0 0 ≡ 0) ⌝ }
-    ensures { λ w. ⌜ Chosen (listing n (transfersOf (now (rs .entry))) (now (b .entry))) (now (bounds .entry)) (now (ends .exit)) w ⌝ }
+// Sweeps over the rows of a list that has passed the tests of its records.
+fn sweep_rows(
+    n: usize,
+    halves: usize,
+    h: Interval,
+    rs: &[[i64; 4]],
+    ends: &[usize],
+    b: &[i64],
+    bounds: &mut [i64],
+    allowed: usize,
+) -> Swept
+    requires { ⌜ (sizes (listing n (transfersOf (now rs)) (now b)) (length (now bounds)) ≡ Pass) × (allowance allowed ≡ Pass) × (halves ≤ 2) ⌝ }
+    requires { ⌜ Rows n (transfersOf (now rs)) (now ends) h × InRange h × (length (now ends) ≡ 33) ⌝ }
+    ensures { λ s. ⌜
+        returned (s .outcome) (s .count) (now (bounds .exit)) ≡
+        listOver halves (listing n (transfersOf (now (rs .entry))) (now (b .entry))) allowed (now (bounds .entry))
+        ⌝ }
 {
-    let r = intervals(b, n, 0);
-    if let Test::Fail(_) = r {
-        return Way::Square;
+    let r = intervals(b, n, rs.len());
+    if let Test::Fail(o) = r {
+        return refused(o);
     }
-    let x = intervals(bounds, n, 0);
-    if let Test::Fail(_) = x {
-        return Way::Square;
+    let x = intervals(bounds, n, rs.len() + n);
+    if let Test::Fail(o) = x {
+        return refused(o);
     }
-    let f = find_rows(n, rs, ends);
-    let h = f.hull;
-    if !f.whole {
-        return Way::Square;
-    }
-    Way::Rows(known_of(h, bounds, n))
+    let known = known_of(h, bounds, n);
+    run(n, halves, known, rs, ends, b, bounds, allowed)
 }
 
 // Sweeps after tests 1, 2 and 4.
@@ -172,20 +142,10 @@ fn sweep_sized(
         ⌝ }
 {
     let mut ends = [0usize; 33];
-    let w = choose(n, rs, b, bounds, &mut ends);
-    if let Way::Rows(known) = w {
-        return passes::run(n, halves, known, rs, &ends, b, bounds, allowed);
+    match tried_rows(n, rs, &mut ends) {
+        Tried::Rows(h) => sweep_rows(n, halves, h, rs, &ends, b, bounds, allowed),
+        Tried::Fail(o) => refused(o),
     }
-    let mut square = [0i64; 2048];
-    sweep_in(
-        n,
-        halves,
-        rs,
-        &mut square[..2 * (n * n)],
-        b,
-        bounds,
-        allowed,
-    )
 }
 
 // Sweeps from records and b, with passes of one half or of both.

@@ -1,19 +1,23 @@
 // Where the rows of a list end: found once, with all tests of the records.
 use crate::Transfer;
+use crate::internal::tests::judged;
 use crate::internal::tests::record;
 use crate::internal::tests::share;
+use inputs::Test;
 use integer::internal::max_of;
 use integer::internal::min_of;
 use interval::Interval;
 use interval::internal::in_range;
+use outcome::Outcome;
 ghost use mathlib.Core.Path.{_≡_};
 ghost use mathlib.Core.Bool.{true, false};
 ghost use Prim.Native.Nat.{_+_, _≤_, _<_};
 ghost use lib.IntN.{pos, natAbs};
 ghost use lib.ListN.{length, getD};
 ghost use lib.Signed.{_≤ℤ_};
+ghost use Rattle.interval.specs.Interval.{inRange};
 ghost use Rattle.transfers.specs.Listing.{transfersOf};
-ghost use Rattle.transfers.specs.Rows.{hull, InRange, Short, Later, RowEnd, AllRows};
+ghost use Rattle.transfers.specs.Rows.{hull, InRange, Short, Later, RowEnd, AllRows, Told};
 
 // What a row ends with: the place after its last record, which is past the list if one of them fails a test; the columns that it has passed; a hull of all shares so far.
 pub struct Row {
@@ -31,7 +35,7 @@ pub struct Found {
 // Whether v is the number of row i.
 fn is_row(i: usize, v: i64) -> bool
     requires { ⌜ i < 32 ⌝ }
-    ensures { λ r. ⌜ (r ≡ true → v ≡ pos (i + 1)) ⌝ }
+    ensures { λ r. ⌜ (r ≡ true → v ≡ pos (i + 1)) × (v ≡ pos (i + 1) → r ≡ true) ⌝ }
 {
     v == i as i64 + 1
 }
@@ -39,7 +43,7 @@ fn is_row(i: usize, v: i64) -> bool
 // Whether v is a number above the first ones, so many.
 fn is_later(first: usize, v: i64) -> bool
     requires { ⌜ first ≤ 9_223_372_036_854_775_807 ⌝ }
-    ensures { λ r. ⌜ (r ≡ true → Later first v) ⌝ }
+    ensures { λ r. ⌜ (r ≡ true → Later first v) × (Later first v → r ≡ true) ⌝ }
 {
     let last = first as i64;
     last < v
@@ -48,7 +52,7 @@ fn is_later(first: usize, v: i64) -> bool
 // Whether a record can be the next one of a row that has passed so many columns.
 fn goes_on(columns: usize, t: Transfer) -> bool
     requires { ⌜ columns ≤ 9_223_372_036_854_775_807 ⌝ }
-    ensures { λ r. ⌜ (r ≡ true → Later columns (t .giver) × (t .lo ≤ℤ t .hi)) ⌝ }
+    ensures { λ r. ⌜ (r ≡ true → Later columns (t .giver) × (t .lo ≤ℤ t .hi)) × (Later columns (t .giver) → t .lo ≤ℤ t .hi → r ≡ true) ⌝ }
 {
     if !is_later(columns, t.giver) {
         return false;
@@ -109,7 +113,7 @@ fn row_end(n: usize, rs: &[[i64; 4]], i: usize, from: usize, held: Interval) -> 
 
 // Whether a row passes all tests of a list of so many records.
 fn is_good(n: usize, count: usize, r: Row) -> bool
-    ensures { λ g. ⌜ (g ≡ true → (r .end ≤ count) × (r .columns ≤ n) × InRange (r .hull)) ⌝ }
+    ensures { λ g. ⌜ (g ≡ true → (r .end ≤ count) × (r .columns ≤ n) × InRange (r .hull)) × (r .end ≤ count → r .columns ≤ n → inRange (r .hull) ≡ true → g ≡ true) ⌝ }
 {
     if count < r.end {
         return false;
@@ -131,7 +135,7 @@ fn not_whole() -> Found
 }
 
 // Where the rows end, one after the other; row i begins where the row before it ends. Not whole, if a record fails a test.
-pub fn find_rows(n: usize, rs: &[[i64; 4]], ends: &mut [usize]) -> Found
+fn find_rows(n: usize, rs: &[[i64; 4]], ends: &mut [usize]) -> Found
     requires { ⌜ (n ≤ 32) × (length (now rs) ≤ 1_024) × (length (now ends) ≡ 33) × (getD (now ends) 0 0 ≡ 0) ⌝ }
     ensures { λ r. ⌜ AllRows n (transfersOf (now (rs .entry))) (now (ends .exit)) r ⌝ }
 {
@@ -152,6 +156,28 @@ pub fn find_rows(n: usize, rs: &[[i64; 4]], ends: &mut [usize]) -> Found
     Found {
         whole: true,
         hull: all,
+    }
+}
+
+// What the tests of the records say: the list stands in rows, with this hull of its shares; or the outcome of the first test that fails.
+pub enum Tried {
+    Rows(Interval),
+    Fail(Outcome),
+}
+
+// All tests of the records. A list that does not stand in rows fails one, so they are tried one after the other: that all pass does not happen.
+pub fn tried_rows(n: usize, rs: &[[i64; 4]], ends: &mut [usize]) -> Tried
+    requires { ⌜ (n ≤ 32) × (length (now rs) ≤ 1_024) × (length (now ends) ≡ 33) × (getD (now ends) 0 0 ≡ 0) ⌝ }
+    ensures { λ r. ⌜ Told n (transfersOf (now (rs .entry))) (now (ends .exit)) r ⌝ }
+{
+    let f = find_rows(n, rs, ends);
+    let h = f.hull;
+    if f.whole {
+        return Tried::Rows(h);
+    }
+    match judged(n, rs) {
+        Test::Pass => Tried::Rows(h),
+        Test::Fail(o) => Tried::Fail(o),
     }
 }
 

@@ -2,7 +2,7 @@ use mathlib.Core.Path.{_≡_, sym, ap, _∙_}
 use Prim.Native.Nat.{_+_}
 use native.Mathlib.Omega.{arith}
 use borrow.Author.Needs.{needs}
-use borrow.Author.Tests.{eqb-true}
+use borrow.Author.Tests.{eqb-true, eq-eqb}
 use lib.IntN.{pos, _+ℤ_}
 use mir.Syntax.{w64}
 use mir.Val.{SFits, toZ, ofZ}
@@ -23,8 +23,10 @@ add-result : tie.Need-add-result
 add-result c = rw (held c) (fits c)
 
 returns : tie.Need-returns
-returns c =
-    λ e. sym (toZ-ofZ w64 (c .args .v) (c .fits .v)) ∙ ap (toZ w64) (eqb-true (ofZ w64 (c .args .v)) (ofZ w64 (toZ w64 (c .args .i) +ℤ pos 1)) e) ∙ ap (λ z. toZ w64 (ofZ w64 (z +ℤ pos 1))) (held c) ∙ toZ-ofZ w64 _ (fits c)
+returns c = (
+  λ e. sym (toZ-ofZ w64 (c .args .v) (c .fits .v)) ∙ ap (toZ w64) (eqb-true (ofZ w64 (c .args .v)) (ofZ w64 (toZ w64 (c .args .i) +ℤ pos 1)) e) ∙ ap (λ z. toZ w64 (ofZ w64 (z +ℤ pos 1))) (held c) ∙ toZ-ofZ w64 _ (fits c),
+  λ e. eq-eqb (ofZ w64 (c .args .v)) (ofZ w64 (toZ w64 (c .args .i) +ℤ pos 1)) (ap (ofZ w64) (e ∙ ap (λ z. z +ℤ pos 1) (sym (held c)))),
+)
 
 pub is-row-spec : {M : Type 1} → statement M
 is-row-spec = tie.close (tie.spec cast-result add-result returns)
