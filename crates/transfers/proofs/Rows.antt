@@ -44,11 +44,11 @@ module _ (ts : List Transfer) (x : List ℤ) (e k : ℕ) (acc : Interval) where
   summed-go h = let f : e - k ≡ suc (e - (k + 1)) = omega arith in rw f
 
 -- two records more, whose products are added first
-pub summed-two : (ts : List Transfer) (x : List ℤ) (e k : ℕ) (acc : Interval) → k + 1 + 1 ≤ e
-    → summed ts x (e - k) k acc ≡ summed ts x (e - (k + 2)) (k + 2) (exactSum acc (exactSum (term ts x k) (term ts x (k + 1))))
-summed-two ts x e k acc h =
+pub summed-two : (ts : List Transfer) (x : List ℤ) (e k : ℕ) (acc : Interval) {j : ℕ} {v : Interval} → v ≡ exactSum acc (exactSum (term ts x j) (term ts x (j + 1))) → j ≡ k → k + 1 + 1 ≤ e
+    → summed ts x (e - k) k acc ≡ summed ts x (e - (k + 2)) (k + 2) v
+summed-two ts x e k acc f g h =
     let z : k + 1 + 1 ≡ k + 2 = omega arith in
-    summed-go ts x e k acc (omega arith) ∙ summed-go ts x e (k + 1) _ (omega arith) ∙ rw z (ap (summed ts x (e - (k + 2)) (k + 2)) (sum-assoc _ _ _))
+    summed-go ts x e k acc (omega arith) ∙ summed-go ts x e (k + 1) _ (omega arith) ∙ rw (z, f, g) (ap (summed ts x (e - (k + 2)) (k + 2)) (sum-assoc _ _ _))
 
 module _ (n : ℕ) (ts : List Transfer) (ends : List ℕ) {shares : Interval} (range : InRange shares) (w : Rows n ts ends shares) where
   abbrev P : ℕ → ℕ

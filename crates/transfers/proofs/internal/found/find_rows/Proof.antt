@@ -115,7 +115,7 @@ returns-2 c =
     let n = s .args .n in
     let h = length-transfers (s .args .rs .now) in
     let z : l .loop .i ≡ n = omega arith in
-    nothing (c .not-whole2 .ensures) (λ e. omega (arith, h, t .if2 .taken, none-past n _ (s .pre .0) (l .loop .from) (rw z at (l .loop .inv .5 e))))
+    nothing (c .not-whole2 .ensures) (λ e. omega (arith, h, t .if2 .taken, l .loop .inv .1, none-past n _ (s .pre .0) (l .loop .from) (rw z at (l .loop .inv .5 e))))
 
 same-length-3 : tie.Need-same-length-3 Inv-loop μ-loop
 same-length-3 c = long (c .before .before)

@@ -95,7 +95,7 @@ next-two-requires c κs =
         s .pre .0 .0 .list,
         near-both-more (omega (arith, h, inside s)) (l .loop .inv .2),
       ),
-      ((can s _ (omega arith) (omega (arith, h)), can s _ (omega arith) h), s .pre .1),
+      ((can s _ (omega arith) (omega (arith, h)), can s _ (omega arith) (omega (arith, h))), s .pre .1),
     )
 
 add-j : tie.Need-add-j Inv-loop μ-loop
@@ -109,8 +109,11 @@ loop-again c =
     let d = c .before in
     let l = d .before in
     let s = start l in
-    let z : first s + 2 * (l .loop .j + 1) ≡ first s + 2 * l .loop .j + 2 = omega arith in
-    (omega (arith, d .loop-test .taken), l .loop .inv .1 ∙ summed-two _ _ _ _ _ (left-two d) ∙ rw (z, c .next-two .ensures .is), c .next-two .ensures .near _ (l .loop .inv .2))
+    let z : first s + 2 * (l .loop .j + 1) ≡ first s + 2 * l .loop .j + 2 = omega arith in (
+      omega (arith, d .loop-test .taken),
+      l .loop .inv .1 ∙ rw z (summed-two _ _ _ _ _ (c .next-two .ensures .is) (omega arith) (left-two d)),
+      c .next-two .ensures .near _ (l .loop .inv .2),
+    )
 
 -- ---- after all pairs
 paired : (c : tie.After-loop Inv-loop μ-loop) → let s = start (c .before) in c .before .loop .j ≡ (past s - first s) / 2
