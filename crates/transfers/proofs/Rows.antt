@@ -21,7 +21,7 @@ use Rattle.rows.proofs.Exact.{sum-assoc, sum-nought}
 use Rattle.transfers.specs.declared.Transfer.{Transfer}
 use Rattle.transfers.specs.Listing.{nth, share, entries, placeOf, square}
 use Rattle.transfers.specs.Code.{allGood, judgement}
-use Rattle.transfers.specs.Rows.{InRange, InRow, Rows, end, term, summed, rowSum}
+use Rattle.transfers.specs.Rows.{InRange, InRow, Rows, end, term, twoTerms, summed, rowSum}
 use Rattle.transfers.proofs.Good.{good-end, each, good-passes}
 use Rattle.transfers.proofs.Places.{no-place, rises, own-place}
 use Rattle.transfers.proofs.RowEnd.{row-place, column-below}
@@ -44,8 +44,9 @@ module _ (ts : List Transfer) (x : List ℤ) (e k : ℕ) (acc : Interval) where
   summed-go h = let f : e - k ≡ suc (e - (k + 1)) = omega arith in rw f
 
 -- two records more, whose products are added first
-pub summed-two : (ts : List Transfer) (x : List ℤ) (e k : ℕ) (acc : Interval) {j : ℕ} {v : Interval} → v ≡ exactSum acc (exactSum (term ts x j) (term ts x (j + 1))) → j ≡ k → k + 1 + 1 ≤ e
+pub summed-two : (ts : List Transfer) (x : List ℤ) (e k : ℕ) (acc : Interval) {j : ℕ} {v : Interval} → v ≡ exactSum acc (twoTerms ts x j) → j ≡ k → k + 1 + 1 ≤ e
     → summed ts x (e - k) k acc ≡ summed ts x (e - (k + 2)) (k + 2) v
+unfolding twoTerms
 summed-two ts x e k acc f g h =
     let z : k + 1 + 1 ≡ k + 2 = omega arith in
     summed-go ts x e k acc (omega arith) ∙ summed-go ts x e (k + 1) _ (omega arith) ∙ rw (z, f, g) (ap (summed ts x (e - (k + 2)) (k + 2)) (sum-assoc _ _ _))

@@ -33,7 +33,7 @@ module _ (a b : Interval) (s : Short a) (o : a .lo ≤ℤ a .hi) (e : acceptable
           → (negℤ (pos 268435456000000000) ≤ℤ (x *ℤ y)) × ((x *ℤ y) ≤ℤ pos 268435456000000000)
       go = over 2 _ (λ ρ h₁ h₂ k₁ k₂. also (prod h₁ k₁) (also (prod h₁ k₂) (also (prod h₂ k₁) (also (prod h₂ k₂) (simp (linear, ρ) (omega arith))))))
 
-  product-short : Small 268435456000000000 (exactProduct a b)
+  pub product-short : Small 268435456000000000 (exactProduct a b)
   unfolding exactProduct
   product-short =
       let w = acceptable-small b e in
@@ -51,9 +51,14 @@ module _ (a b : Interval) (s : Short a) (o : a .lo ≤ℤ a .hi) (e : acceptable
         high = greatest-ind _ _ _ _ Few p q r t .1;
       }
 
-  -- one more
-  pub sum-short : (k : ℕ) {v : Interval} → Small (k * 268435456000000000) v → Small ((k + 1) * 268435456000000000) (exactSum v (exactProduct a b))
-  sum-short k {v} m = let z : (k + 1) * 268435456000000000 ≡ k * 268435456000000000 + 268435456000000000 = omega arith in rw z (sum-small m product-short)
+-- one product more, and two
+pub one-short : (k : ℕ) {u v : Interval} → Small (k * 268435456000000000) v → Small 268435456000000000 u → Small ((k + 1) * 268435456000000000) (exactSum v u)
+one-short k m p = let z : (k + 1) * 268435456000000000 ≡ k * 268435456000000000 + 268435456000000000 = omega arith in rw z (sum-small m p)
+
+pub two-short : (k : ℕ) {u v w : Interval} → Small (k * 268435456000000000) v → Small 268435456000000000 u → Small 268435456000000000 w → Small ((k + 2) * 268435456000000000) (exactSum v (exactSum u w))
+two-short k m p q =
+    let z : (k + 2) * 268435456000000000 ≡ k * 268435456000000000 + (268435456000000000 + 268435456000000000) = omega arith in
+    rw z (sum-small m (sum-small p q))
 
 pub short-fits : (k : ℕ) {v : Interval} → k ≤ 32 → Small (k * 268435456000000000) v → Representable v
 short-fits k h m = small-fits (omega arith) m

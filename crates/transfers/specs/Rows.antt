@@ -107,15 +107,25 @@ pub record Listed (n : ℕ) (rs : List (List ℤ)) (ends : List ℕ) (known : Kn
   pub box : known .above ≡ true → NoneBelow x
 
 -- ---- sums
--- the record k can be multiplied with a component; if above is true, its share is not below 0
-pub record Factors (n : ℕ) (ts : List Transfer) (above : Bool) (k : ℕ) : Type 0 where
+-- the component of the record k's giver
+abbrev pub component : List Transfer → List ℤ → (k : ℕ) → Interval
+component ts x k = at x (natAbs (nth ts k .giver) - 1)
+
+-- the record k can be multiplied with it; if above is true, neither is below 0
+pub record Factors (n : ℕ) (ts : List Transfer) (x : List ℤ) (above : Bool) (k : ℕ) : Type 0 where
   pub inside : isComponent n (nth ts k .giver) ≡ true
   pub proper : interval.acceptable (share (nth ts k)) ≡ true
-  pub over : above ≡ true → pos 0 ≤ℤ share (nth ts k) .lo
+  pub over : above ≡ true → (pos 0 ≤ℤ share (nth ts k) .lo) × (pos 0 ≤ℤ component ts x k .lo)
 
--- the product of the record k with the component of its giver, unrounded
+abbrev pub Pair : (n : ℕ) (ts : List Transfer) (x : List ℤ) (above : Bool) (k : ℕ) → Type 0
+Pair n ts x above k = Factors n ts x above k × Factors n ts x above (k + 1)
+
+-- that product, unrounded; and with the next one
 unfoldable pub term : List Transfer → List ℤ → (k : ℕ) → Interval
-term ts x k = interval.exactProduct (share (nth ts k)) (at x (natAbs (nth ts k .giver) - 1))
+term ts x k = interval.exactProduct (share (nth ts k)) (component ts x k)
+
+unfoldable pub twoTerms : List Transfer → List ℤ → (k : ℕ) → Interval
+twoTerms ts x k = interval.exactSum (term ts x k) (term ts x (k + 1))
 
 -- acc and the products of the records k, k + 1, .., d of them
 unfoldable pub summed : List Transfer → List ℤ → (d k : ℕ) → Interval → Interval

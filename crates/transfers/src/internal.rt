@@ -5,4 +5,5 @@ pub mod gathered;
 pub mod listed;
 pub mod passes;
 pub mod square;
+pub mod terms;
 pub mod tests;

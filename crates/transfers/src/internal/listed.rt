@@ -1,14 +1,12 @@
 // The sum of a row over its records alone, in one word or in two; and the new component.
-use crate::internal::square::index;
-use crate::internal::tests::record;
-use crate::internal::tests::share;
+use crate::internal::terms::both_above;
+use crate::internal::terms::term;
+use crate::internal::terms::two;
 use inputs::internal::read;
 use integer::internal::ceil_div;
 use integer::internal::floor_div;
 use interval::Interval;
 use interval::internal::intersection;
-use interval::internal::product::exact_product;
-use interval::internal::product::product_above;
 use interval::internal::sum as add;
 use wide_sum::WideInterval;
 use wide_sum::internal::rounding::rounded as rounded_from_two;
@@ -18,10 +16,9 @@ use wide_sum::internal::sum::raised_both;
 ghost use mathlib.Core.Path.{_≡_};
 ghost use mathlib.Core.Bool.{true, false};
 ghost use Prim.Native.Nat.{_+_, _*_, _≤_, _<_};
-ghost use lib.IntN.{pos};
 ghost use lib.ListN.{length};
-ghost use lib.Signed.{_≤ℤ_};
 ghost use Rattle.interval.specs.Interval.{scale, exactSum, rounded};
+ghost use Rattle.interval.specs.Code.{Representable};
 ghost use Rattle.inputs.specs.System.{system};
 ghost use Rattle.inputs.specs.Code.{Sound};
 ghost use Rattle.wide_sum.specs.Wide.{heldBoth};
@@ -30,7 +27,7 @@ ghost use Rattle.rows.specs.Sum.{once};
 ghost use Rattle.rows.specs.Word.{NoneBelow};
 ghost use Rattle.sweep.specs.Pass.{component};
 ghost use Rattle.transfers.specs.Listing.{square, transfersOf};
-ghost use Rattle.transfers.specs.Rows.{Factors, InRows, Listed, term, rowSum};
+ghost use Rattle.transfers.specs.Rows.{Pair, InRows, Listed, twoTerms, rowSum};
 
 // What is known of rows and a box: whether the sums fit one word, and whether no share and no component is below 0.
 pub struct Known {
@@ -38,20 +35,18 @@ pub struct Known {
     pub above: bool,
 }
 
-// The product of the record k with the component of its giver; above says that neither is below 0. The signs of the component are looked at first, as in a row of a matrix.
-fn term(n: usize, above: bool, rs: &[[i64; 4]], x: &[i64], k: usize) -> Interval
-    requires { ⌜ (k < length (now rs)) × (length (now rs) ≤ 1_024) × Factors n (transfersOf (now rs)) above k ⌝ }
-    requires { ⌜ (length (now x) ≡ 2 * n) × Sound (now x) × (above ≡ true → NoneBelow (now x)) ⌝ }
-    ensures { λ r. ⌜ r ≡ term (transfersOf (now (rs .entry))) (now (x .entry)) k ⌝ }
+// sum and the products of the records k and k + 1, in one word.
+fn short_two(n: usize, above: bool, rs: &[[i64; 4]], x: &[i64], k: usize, sum: Interval) -> Interval
+    requires { ⌜ (k + 1 < length (now rs)) × (length (now rs) ≤ 1_024) × Pair n (transfersOf (now rs)) (now x) above k ⌝ }
+    requires { ⌜ (length (now x) ≡ 2 * n) × Sound (now x) × Representable (exactSum sum (twoTerms (transfersOf (now rs)) (now x) k)) ⌝ }
+    ensures { λ r. ⌜ r ≡ exactSum sum (twoTerms (transfersOf (now (rs .entry))) (now (x .entry)) k) ⌝ }
 {
-    let t = record(rs, k);
-    let j = index(n, t.giver);
-    let a = share(t);
-    let b = read(x, j);
-    if above {
-        return product_above(a, b);
+    if both_above(n, above, rs, x, k) {
+        let u = two(n, true, rs, x, k);
+        return add(sum, u);
     }
-    exact_product(b, a)
+    let u = two(n, false, rs, x, k);
+    add(sum, u)
 }
 
 // The sum of row i, unrounded, in one word.
@@ -68,28 +63,21 @@ fn short_sum(
     ensures { λ v. ⌜ v ≡ rowSum (transfersOf (now (rs .entry))) (now (ends .entry)) (now (x .entry)) i ⌝ }
 {
     let from = ends[i];
-    let to = ends[i + 1];
+    let count = ends[i + 1] - from;
+    let pairs = count / 2;
     let mut sum = Interval::ZERO;
-    for k in from..to {
-        let u = term(n, above, rs, x, k);
-        sum = add(sum, u);
+    for j in 0..pairs {
+        sum = short_two(n, above, rs, x, from + 2 * j, sum);
+    }
+    if 2 * pairs < count {
+        let u = term(n, above, rs, x, from + 2 * pairs);
+        return add(sum, u);
     }
     sum
 }
 
-// acc and v; above says that v is not below 0.
-fn next(above: bool, acc: WideInterval, v: Interval) -> WideInterval
-    requires { ⌜ NearBoth 1_000 acc × (above ≡ true → (pos 0 ≤ℤ v .lo) × (pos 0 ≤ℤ v .hi)) ⌝ }
-    ensures { λ r. ⌜ AddedBoth acc v r ⌝ }
-{
-    if above {
-        return raised_both(acc, v);
-    }
-    added_both(acc, v)
-}
-
-// acc and the products of the records k and k + 1, which together fit one word.
-fn next_two(
+// acc and the products of the records k and k + 1, in two words.
+fn wide_two(
     n: usize,
     above: bool,
     rs: &[[i64; 4]],
@@ -97,17 +85,16 @@ fn next_two(
     k: usize,
     acc: WideInterval,
 ) -> WideInterval
-    requires { ⌜ (k + 1 < length (now rs)) × (length (now rs) ≤ 1_024) × NearBoth 1_000 acc ⌝ }
-    requires { ⌜ Factors n (transfersOf (now rs)) above k × Factors n (transfersOf (now rs)) above (k + 1) ⌝ }
-    requires { ⌜ (length (now x) ≡ 2 * n) × Sound (now x) × (above ≡ true → NoneBelow (now x)) ⌝ }
-    ensures { λ r. ⌜
-        AddedBoth acc (exactSum (term (transfersOf (now (rs .entry))) (now (x .entry)) k) (term (transfersOf (now (rs .entry))) (now (x .entry)) (k + 1))) r
-        ⌝ }
+    requires { ⌜ (k + 1 < length (now rs)) × (length (now rs) ≤ 1_024) × Pair n (transfersOf (now rs)) (now x) above k ⌝ }
+    requires { ⌜ (length (now x) ≡ 2 * n) × Sound (now x) × NearBoth 1_000 acc ⌝ }
+    ensures { λ r. ⌜ AddedBoth acc (twoTerms (transfersOf (now (rs .entry))) (now (x .entry)) k) r ⌝ }
 {
-    let u = term(n, above, rs, x, k);
-    let v = term(n, above, rs, x, k + 1);
-    let both = add(u, v);
-    next(above, acc, both)
+    if both_above(n, above, rs, x, k) {
+        let u = two(n, true, rs, x, k);
+        return raised_both(acc, u);
+    }
+    let u = two(n, false, rs, x, k);
+    added_both(acc, u)
 }
 
 // The sum of row i, unrounded, in two words.
@@ -128,11 +115,11 @@ fn wide_sum(
     let pairs = count / 2;
     let mut sum = nought();
     for j in 0..pairs {
-        sum = next_two(n, above, rs, x, from + 2 * j, sum);
+        sum = wide_two(n, above, rs, x, from + 2 * j, sum);
     }
     if 2 * pairs < count {
         let u = term(n, above, rs, x, from + 2 * pairs);
-        return next(above, sum, u);
+        return added_both(sum, u);
     }
     sum
 }

@@ -1,27 +1,41 @@
-use mathlib.Core.Path.{_≡_, refl, sym, subst, _∙_}
-use Prim.Native.Nat.{ℕ, _+_, _-_, _*_, _≤_}
+use mathlib.Core.Path.{_≡_, refl, sym, ap, subst, _∙_}
+use Prim.Native.Nat.{ℕ, _+_, _-_, _*_, _/_, _≤_}
 use native.Mathlib.Omega.{arith}
 use denote.Ref.{now}
-use Rattle.interval.specs.Interval.{zero, exactSum}
+use Rattle.interval.specs.Interval.{exactSum, zero}
+use Rattle.interval.specs.Code.{Representable}
 use Rattle.rows.proofs.Size.{Small, zero-small}
 use Rattle.transfers.specs.Listing.{transfersOf}
-use Rattle.transfers.specs.Rows.{RowOf, end, term, summed, rowSum}
-use Rattle.transfers.proofs.Records.{length-transfers}
-use Rattle.transfers.proofs.Short.{short-held, sum-short, short-fits}
-use Rattle.transfers.proofs.Rows.{summed-end, summed-go}
-use Rattle.transfers.proofs.Terms.{factors}
+use Rattle.transfers.specs.Rows.{RowOf, end, term, twoTerms, summed, rowSum}
+use Rattle.transfers.proofs.Short.{one-short, two-short, short-fits}
+use Rattle.transfers.proofs.Rows.{summed-end, summed-go, summed-two}
+use Rattle.transfers.proofs.Terms.{row-is, row-few, row-inside, row-near, factors, pair, term-short}
 use Rattle.transfers.proofs.internal.listed.short_sum.Statement.{statement}
 use Rattle.transfers.proofs.internal.listed.short_sum.Tie as tie
 
+-- j pairs are added
 abbrev Inv-loop : tie.InvT-loop
-Inv-loop n above rs ends x i from to sum₀ k₀ sum k =
-    (from ≤ k) × (k ≤ to) × (rowSum (transfersOf rs) ends x i ≡ summed (transfersOf rs) x (to - k) k sum) × Small ((k - from) * 268435456000000000) sum
+Inv-loop n above rs ends x i from count pairs sum₀ j₀ sum j =
+    (j ≤ pairs) × (rowSum (transfersOf rs) ends x i ≡ summed (transfersOf rs) x (end ends (i + 1) - (from + 2 * j)) (from + 2 * j) sum) × Small (2 * j * 268435456000000000) sum
 
 abbrev μ-loop : tie.MeasureT-loop
-μ-loop n above rs ends x i from to sum₀ k₀ sum k = to - k
+μ-loop n above rs ends x i from count pairs sum₀ j₀ sum j = pairs - j
 
-row : (c : tie.Start Inv-loop μ-loop) → RowOf (c .args .n) (transfersOf (now (c .args .rs))) (c .args .i) (c .pre .0 .0 .sums .hull) (end (now (c .args .ends)) (c .args .i)) (end (now (c .args .ends)) (c .args .i + 1))
-row c = c .pre .0 .0 .sums .rows .row (c .args .i) (c .pre .0 .1)
+-- ---- the row
+abbrev first : tie.Start Inv-loop μ-loop → ℕ
+first c = end (now (c .args .ends)) (c .args .i)
+
+abbrev past : tie.Start Inv-loop μ-loop → ℕ
+past c = end (now (c .args .ends)) (c .args .i + 1)
+
+row : (c : tie.Start Inv-loop μ-loop) → RowOf (c .args .n) (transfersOf (now (c .args .rs))) (c .args .i) (c .pre .0 .0 .sums .hull) (first c) (past c)
+row c = row-is (c .pre .0 .0) (c .pre .0 .1)
+
+few : (c : tie.Start Inv-loop μ-loop) → past c - first c ≤ 32
+few c = row-few (c .pre .0 .0) (c .pre .0 .1)
+
+near-by : (c : tie.Start Inv-loop μ-loop) → past c ≤ 1024
+near-by c = row-near (c .pre .0 .0) (c .pre .0 .1)
 
 mul-from : tie.Need-mul-from Inv-loop μ-loop
 mul-from c = let w = c .before .pre .0 in omega (arith, w .0 .few, w .1)
@@ -29,70 +43,131 @@ mul-from c = let w = c .before .pre .0 in omega (arith, w .0 .few, w .1)
 shared-slice-read-from : tie.Need-shared-slice-read-from Inv-loop μ-loop
 shared-slice-read-from c = let w = c .before .before .pre .0 in omega (arith, w .0 .few, w .0 .room, w .1)
 
-add-to : tie.Need-add-to Inv-loop μ-loop
-add-to c = let w = c .before .before .pre .0 in omega (arith, w .0 .few, w .1)
+add-count : tie.Need-add-count Inv-loop μ-loop
+add-count c = let w = c .before .before .pre .0 in omega (arith, w .0 .few, w .1)
 
-mul-to : tie.Need-mul-to Inv-loop μ-loop
-mul-to c = let w = c .before .before .pre .0 in omega (arith, w .0 .few, w .1)
+mul-count : tie.Need-mul-count Inv-loop μ-loop
+mul-count c = let w = c .before .before .pre .0 in omega (arith, w .0 .few, w .1)
 
-shared-slice-read-to : tie.Need-shared-slice-read-to Inv-loop μ-loop
-shared-slice-read-to c = let w = c .before .before .before .pre .0 in omega (arith, w .0 .few, w .0 .room, w .1)
+shared-slice-read-count : tie.Need-shared-slice-read-count Inv-loop μ-loop
+shared-slice-read-count c = let w = c .before .before .before .pre .0 in omega (arith, w .0 .few, w .0 .room, w .1)
 
--- no product yet
-nothing : (k : ℕ) → Small ((k - k) * 268435456000000000) zero
-nothing k = let z : (k - k) * 268435456000000000 ≡ 0 = omega arith in rw z zero-small
+sub-count : tie.Need-sub-count Inv-loop μ-loop
+sub-count c = row (c .before .before .before) .forward
 
 loop-holds : tie.Need-loop-holds Inv-loop μ-loop
 unfolding rowSum
-loop-holds c = let s = c .before .before .before in (omega arith, row s .forward, refl, nothing (end (now (s .args .ends)) (s .args .i)))
+loop-holds c =
+    let s = c .before .before .before in
+    let z : first s + 0 ≡ first s = omega arith in
+    (omega arith, rw z, zero-small)
 
-abbrev start : tie.In-loop Inv-loop μ-loop → tie.Start Inv-loop μ-loop
-start c = c .before .before .before .before .before
+abbrev start : tie.At-loop Inv-loop μ-loop → tie.Start Inv-loop μ-loop
+start c = c .before .before .before .before
 
-term-requires : tie.Need-term-requires Inv-loop μ-loop
-term-requires c κs =
-    let s = start c in
-    let w = s .pre .0 .0 in
-    ((omega (arith, row s .within, length-transfers (now (s .args .rs)), c .loop-test .taken), w .list, factors (w .sums) (s .pre .0 .1) (c .before .loop .inv .0) (c .loop-test .taken)), s .pre .1)
+-- two records are left
+left-two : (c : tie.In-loop Inv-loop μ-loop) → let s = start (c .before) in first s + 2 * c .before .loop .j + 1 + 1 ≤ past s
+left-two c = omega (arith, c .loop-test .taken, row (start (c .before)) .forward)
 
--- one product more
-grown : (c : tie.After-term Inv-loop μ-loop) → let l = c .before .before in let s = start (c .before) in
-    Small ((l .loop .k - end (now (s .args .ends)) (s .args .i) + 1) * 268435456000000000) (exactSum (l .loop .sum) (c .term .result))
-unfolding term
+mul-short-two : tie.Need-mul-short-two Inv-loop μ-loop
+mul-short-two c = omega (arith, left-two c, near-by (start (c .before)))
+
+add-short-two : tie.Need-add-short-two Inv-loop μ-loop
+add-short-two c = omega (arith, left-two c, near-by (start (c .before)))
+
+-- two products more
+grown : (c : tie.In-loop Inv-loop μ-loop) → let l = c .before in let s = start l in
+    Small ((2 * l .loop .j + 2) * 268435456000000000) (exactSum (l .loop .sum) (twoTerms (transfersOf (now (s .args .rs))) (now (s .args .x)) (first s + 2 * l .loop .j)))
+unfolding twoTerms
 grown c =
-    let d = c .before in
-    let s = start d in
-    let r = row s .each _ (d .before .loop .inv .0) (d .loop-test .taken) in
-    rw (c .term .ensures) (sum-short _ _ (short-held (s .pre .0 .0 .sums .few refl) (r .held)) (r .order) (s .pre .1 .1 .each _) _ (d .before .loop .inv .3))
+    let l = c .before in
+    let s = start l in
+    let h = left-two c in
+    let short = term-short (s .pre .0 .0) (s .pre .0 .1) refl (s .pre .1 .1) in
+    two-short (2 * l .loop .j) (l .loop .inv .2) (short _ (omega arith) (omega (arith, h))) (short _ (omega arith) h)
 
-sum-requires : tie.Need-sum-requires Inv-loop μ-loop
-sum-requires c κs =
-    let d = c .before in
-    let s = start d in
-    short-fits _ (omega (arith, row s .few, s .pre .0 .0 .few, d .loop-test .taken, d .before .loop .inv .0)) (grown c)
+fits : {k : ℕ} (c : tie.In-loop Inv-loop μ-loop) → let l = c .before in let s = start l in k ≡ first s + 2 * l .loop .j → Representable (exactSum (l .loop .sum) (twoTerms (transfersOf (now (s .args .rs))) (now (s .args .x)) k))
+fits c e = let s = start (c .before) in rw e (short-fits _ (omega (arith, left-two c, few s)) (grown c))
 
-add-k : tie.Need-add-k Inv-loop μ-loop
-add-k c = let s = start (c .before .before) in omega (arith, row s .within, length-transfers (now (s .args .rs)), s .pre .0 .0 .list)
+short-two-requires : tie.Need-short-two-requires Inv-loop μ-loop
+short-two-requires c κs =
+    let l = c .before in
+    let s = start l in
+    let h = left-two c in
+    let x = s .pre .1 in (
+      (omega (arith, h, row-inside (s .pre .0 .0) (s .pre .0 .1)), s .pre .0 .0 .list, pair (s .pre .0 .0) (s .pre .0 .1) (x .2) _ (omega arith) (omega (arith, h))),
+      (x .0, x .1, fits c (omega arith)),
+    )
+
+add-j : tie.Need-add-j Inv-loop μ-loop
+add-j c = omega (arith, left-two (c .before), near-by (start (c .before .before)))
 
 loop-less : tie.Need-loop-less Inv-loop μ-loop
 loop-less c = omega arith
 
 loop-again : tie.Need-loop-again Inv-loop μ-loop
 loop-again c =
-    let t = c .before in
-    let d = t .before in
+    let d = c .before in
     let l = d .before in
-    let s = start d in
-    let f = end (now (s .args .ends)) (s .args .i) in
-    let z : l .loop .k - f + 1 ≡ l .loop .k + 1 - f = omega (arith, l .loop .inv .0) in (
-      omega (arith, l .loop .inv .0),
+    let s = start l in
+    let z : first s + 2 * (l .loop .j + 1) ≡ first s + 2 * l .loop .j + 2 = omega arith in
+    let y : 2 * l .loop .j + 2 ≡ 2 * (l .loop .j + 1) = omega arith in (
       omega (arith, d .loop-test .taken),
-      l .loop .inv .2 ∙ summed-go _ _ _ _ _ (d .loop-test .taken) ∙ rw (c .sum .ensures, t .term .ensures),
-      subst (λ (k : ℕ). Small (k * 268435456000000000) (c .sum .result)) z (rw (c .sum .ensures) (grown t)),
+      l .loop .inv .1 ∙ rw z (summed-two _ _ _ _ _ (c .short-two .ensures) (omega arith) (left-two d)),
+      subst (λ (k : ℕ). Small (k * 268435456000000000) (c .short-two .result)) y (rw (c .short-two .ensures) (grown d)),
     )
 
+-- ---- after all pairs
+paired : (c : tie.After-loop Inv-loop μ-loop) → let s = start (c .before) in c .before .loop .j ≡ (past s - first s) / 2
+paired c = omega (arith, c .loop-test .left, c .before .loop .inv .0)
+
+summed-so-far : (c : tie.After-loop Inv-loop μ-loop) → let s = start (c .before) in let k = first s + 2 * ((past s - first s) / 2) in
+    rowSum (transfersOf (now (s .args .rs))) (now (s .args .ends)) (now (s .args .x)) (s .args .i) ≡ summed (transfersOf (now (s .args .rs))) (now (s .args .x)) (past s - k) k (c .before .loop .sum)
+summed-so-far c = rw (paired c) at (c .before .loop .inv .1)
+
+mul-if1 : tie.Need-mul-if1 Inv-loop μ-loop
+mul-if1 c = omega (arith, few (start (c .before)))
+
+mul-term : tie.Need-mul-term Inv-loop μ-loop
+mul-term c = omega (arith, few (start (c .before .before)))
+
+add-term : tie.Need-add-term Inv-loop μ-loop
+add-term c = let s = start (c .before .before) in omega (arith, few s, near-by s, row s .forward)
+
+-- the last record
+last : (c : tie.Then1 Inv-loop μ-loop) → let s = start (c .before .before) in first s + 2 * ((past s - first s) / 2) + 1 ≡ past s
+last c = omega (arith, c .if1 .taken, row (start (c .before .before)) .forward)
+
+term-requires : tie.Need-term-requires Inv-loop μ-loop
+term-requires c κs =
+    let s = start (c .before .before) in
+    let w = s .pre .0 in
+    let x = s .pre .1 in
+    let h = last c in
+    ((omega (arith, h, row-inside (w .0) (w .1)), w .0 .list, factors (w .0) (w .1) (x .2) _ (omega arith) (omega (arith, h))), (x .0, x .1))
+
+sum-requires : tie.Need-sum-requires Inv-loop μ-loop
+sum-requires c κs =
+    let d = c .before in
+    let l = d .before .before in
+    let s = start l in
+    let h = last d in
+    let p = term-short (s .pre .0 .0) (s .pre .0 .1) refl (s .pre .1 .1) (first s + 2 * ((past s - first s) / 2)) (omega arith) (omega (arith, h)) in
+    rw (c .term .ensures) (short-fits (2 * l .loop .j + 1) (omega (arith, paired (d .before), few s, h)) (one-short (2 * l .loop .j) (l .loop .inv .2) p))
+
 returns : tie.Need-returns Inv-loop μ-loop
-returns c = let l = c .before in sym (l .loop .inv .2 ∙ summed-end _ _ _ _ _ (c .loop-test .left))
+returns c =
+    let t = c .before in
+    let d = t .before in
+    let a = d .before in
+    let h = last d in
+    sym
+    (summed-so-far a ∙ summed-go _ _ _ _ _ (omega (arith, h)) ∙ summed-end _ _ _ _ _ (omega (arith, h)) ∙ sym (c .sum .ensures ∙ ap (exactSum (a .before .loop .sum)) (t .term .ensures)))
+
+returns-2 : tie.Need-returns-2 Inv-loop μ-loop
+returns-2 c =
+    let a = c .before in
+    sym (summed-so-far a ∙ summed-end _ _ _ _ _ (omega (arith, c .if1 .left, row (start (a .before)) .forward)))
 
 pub short-sum-spec : {M : Type 1} → statement M
 short-sum-spec =
@@ -102,13 +177,21 @@ short-sum-spec =
     μ-loop
     mul-from
     shared-slice-read-from
-    add-to
-    mul-to
-    shared-slice-read-to
+    add-count
+    mul-count
+    shared-slice-read-count
+    sub-count
     loop-holds
-    term-requires
-    sum-requires
-    add-k
+    mul-short-two
+    add-short-two
+    short-two-requires
+    add-j
     loop-less
     loop-again
-    returns)
+    mul-if1
+    mul-term
+    add-term
+    term-requires
+    sum-requires
+    returns
+    returns-2)

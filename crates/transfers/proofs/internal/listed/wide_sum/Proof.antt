@@ -1,4 +1,4 @@
-use mathlib.Core.Path.{_≡_, sym, ap, subst, _∙_}
+use mathlib.Core.Path.{_≡_, sym, ap, _∙_}
 use Prim.Native.Nat.{ℕ, _+_, _-_, _*_, _/_, _≤_}
 use native.Mathlib.Omega.{arith}
 use borrow.Author.Needs.{needs}
@@ -8,10 +8,9 @@ use Rattle.wide_sum.specs.Wide.{heldBoth}
 use Rattle.wide_sum.specs.Code.{NearBoth}
 use Rattle.wide_sum.proofs.Near.{near-both-more}
 use Rattle.transfers.specs.Listing.{transfersOf}
-use Rattle.transfers.specs.Rows.{RowOf, Factors, end, summed, rowSum}
-use Rattle.transfers.proofs.Records.{length-transfers}
+use Rattle.transfers.specs.Rows.{RowOf, end, summed, rowSum}
 use Rattle.transfers.proofs.Rows.{summed-end, summed-go, summed-two}
-use Rattle.transfers.proofs.Terms.{Above, factors, term-above}
+use Rattle.transfers.proofs.Terms.{row-is, row-few, row-inside, row-near, factors, pair}
 use Rattle.transfers.proofs.internal.listed.wide_sum.Statement.{statement}
 use Rattle.transfers.proofs.internal.listed.wide_sum.Tie as tie
 
@@ -31,18 +30,13 @@ abbrev past : tie.Start Inv-loop μ-loop → ℕ
 past c = end (now (c .args .ends)) (c .args .i + 1)
 
 row : (c : tie.Start Inv-loop μ-loop) → RowOf (c .args .n) (transfersOf (now (c .args .rs))) (c .args .i) (c .pre .0 .0 .sums .hull) (first c) (past c)
-row c = c .pre .0 .0 .sums .rows .row (c .args .i) (c .pre .0 .1)
+row c = row-is (c .pre .0 .0) (c .pre .0 .1)
 
--- it is short, and lies in the list
 few : (c : tie.Start Inv-loop μ-loop) → past c - first c ≤ 32
-few c = omega (arith, row c .few, c .pre .0 .0 .few)
+few c = row-few (c .pre .0 .0) (c .pre .0 .1)
 
-inside : (c : tie.Start Inv-loop μ-loop) → past c ≤ 1024
-inside c = omega (arith, row c .within, length-transfers (now (c .args .rs)), c .pre .0 .0 .list)
-
--- a record of the row can be multiplied
-can : (c : tie.Start Inv-loop μ-loop) (k : ℕ) → first c ≤ k → k + 1 ≤ past c → Factors (c .args .n) (transfersOf (now (c .args .rs))) (c .args .above) k
-can c k f g = factors (c .pre .0 .0 .sums) (c .pre .0 .1) f (omega (arith, g))
+near-by : (c : tie.Start Inv-loop μ-loop) → past c ≤ 1024
+near-by c = row-near (c .pre .0 .0) (c .pre .0 .1)
 
 mul-from : tie.Need-mul-from Inv-loop μ-loop
 mul-from c = let w = c .before .pre .0 in omega (arith, w .0 .few, w .1)
@@ -77,29 +71,26 @@ start c = c .before .before .before .before .before
 
 -- two records are left
 left-two : (c : tie.In-loop Inv-loop μ-loop) → let s = start (c .before) in first s + 2 * c .before .loop .j + 1 + 1 ≤ past s
-left-two c = let s = start (c .before) in omega (arith, c .loop-test .taken, row s .forward)
+left-two c = omega (arith, c .loop-test .taken, row (start (c .before)) .forward)
 
-mul-next-two : tie.Need-mul-next-two Inv-loop μ-loop
-mul-next-two c = omega (arith, left-two c, inside (start (c .before)))
+mul-wide-two : tie.Need-mul-wide-two Inv-loop μ-loop
+mul-wide-two c = omega (arith, left-two c, near-by (start (c .before)))
 
-add-next-two : tie.Need-add-next-two Inv-loop μ-loop
-add-next-two c = omega (arith, left-two c, inside (start (c .before)))
+add-wide-two : tie.Need-add-wide-two Inv-loop μ-loop
+add-wide-two c = omega (arith, left-two c, near-by (start (c .before)))
 
-next-two-requires : tie.Need-next-two-requires Inv-loop μ-loop
-next-two-requires c κs =
+wide-two-requires : tie.Need-wide-two-requires Inv-loop μ-loop
+wide-two-requires c κs =
     let l = c .before in
     let s = start l in
-    let h = left-two c in (
-      (
-        omega (arith, h, row s .within, length-transfers (now (s .args .rs))),
-        s .pre .0 .0 .list,
-        near-both-more (omega (arith, h, inside s)) (l .loop .inv .2),
-      ),
-      ((can s _ (omega arith) (omega (arith, h)), can s _ (omega arith) (omega (arith, h))), s .pre .1),
+    let h = left-two c in
+    let x = s .pre .1 in (
+      (omega (arith, h, row-inside (s .pre .0 .0) (s .pre .0 .1)), s .pre .0 .0 .list, pair (s .pre .0 .0) (s .pre .0 .1) (x .2) _ (omega arith) (omega (arith, h))),
+      (x .0, x .1, near-both-more (omega (arith, h, near-by s)) (l .loop .inv .2)),
     )
 
 add-j : tie.Need-add-j Inv-loop μ-loop
-add-j c = omega (arith, left-two (c .before), inside (start (c .before .before)))
+add-j c = omega (arith, left-two (c .before), near-by (start (c .before .before)))
 
 loop-less : tie.Need-loop-less Inv-loop μ-loop
 loop-less c = omega arith
@@ -111,8 +102,8 @@ loop-again c =
     let s = start l in
     let z : first s + 2 * (l .loop .j + 1) ≡ first s + 2 * l .loop .j + 2 = omega arith in (
       omega (arith, d .loop-test .taken),
-      l .loop .inv .1 ∙ rw z (summed-two _ _ _ _ _ (c .next-two .ensures .is) (omega arith) (left-two d)),
-      c .next-two .ensures .near _ (l .loop .inv .2),
+      l .loop .inv .1 ∙ rw z (summed-two _ _ _ _ _ (c .wide-two .ensures .is) (omega arith) (left-two d)),
+      c .wide-two .ensures .near _ (l .loop .inv .2),
     )
 
 -- ---- after all pairs
@@ -133,26 +124,22 @@ mul-term : tie.Need-mul-term Inv-loop μ-loop
 mul-term c = omega (arith, few (start (c .before .before)))
 
 add-term : tie.Need-add-term Inv-loop μ-loop
-add-term c = let s = start (c .before .before) in omega (arith, few s, inside s, row s .forward)
+add-term c = let s = start (c .before .before) in omega (arith, few s, near-by s, row s .forward)
 
 -- the last record
 last : (c : tie.Then1 Inv-loop μ-loop) → let s = start (c .before .before) in first s + 2 * ((past s - first s) / 2) + 1 ≡ past s
-last c = let s = start (c .before .before) in omega (arith, c .if1 .taken, row s .forward)
-
-can-last : (c : tie.Then1 Inv-loop μ-loop) → let s = start (c .before .before) in
-    Factors (s .args .n) (transfersOf (now (s .args .rs))) (s .args .above) (first s + 2 * ((past s - first s) / 2))
-can-last c = can (start (c .before .before)) _ (omega arith) (omega (arith, last c))
+last c = omega (arith, c .if1 .taken, row (start (c .before .before)) .forward)
 
 term-requires : tie.Need-term-requires Inv-loop μ-loop
 term-requires c κs =
     let s = start (c .before .before) in
-    ((omega (arith, last c, row s .within, length-transfers (now (s .args .rs))), s .pre .0 .0 .list, can-last c), s .pre .1)
+    let w = s .pre .0 in
+    let x = s .pre .1 in
+    let h = last c in
+    ((omega (arith, h, row-inside (w .0) (w .1)), w .0 .list, factors (w .0) (w .1) (x .2) _ (omega arith) (omega (arith, h))), (x .0, x .1))
 
-next-requires : tie.Need-next-requires Inv-loop μ-loop
-next-requires c κs =
-    let d = c .before in
-    let x = start (d .before .before) .pre .1 in
-    (near-both-more (omega arith) (near (d .before)), λ e. subst Above (sym (c .term .ensures)) (term-above (can-last d) (x .1) e (x .2 e)))
+added-both-requires : tie.Need-added-both-requires Inv-loop μ-loop
+added-both-requires c κs = near-both-more (omega arith) (near (c .before .before))
 
 returns : tie.Need-returns Inv-loop μ-loop
 returns c =
@@ -161,15 +148,14 @@ returns c =
     let a = d .before in
     let h = last d in (
       sym
-          (summed-so-far a ∙ summed-go _ _ _ _ _ (omega (arith, h)) ∙ summed-end _ _ _ _ _ (omega (arith, h)) ∙ sym (c .next .ensures .is ∙ ap (exactSum (heldBoth (a .before .loop .sum))) (t .term .ensures))),
-      near-both-more (omega arith) (c .next .ensures .near 16 (near a)),
+          (summed-so-far a ∙ summed-go _ _ _ _ _ (omega (arith, h)) ∙ summed-end _ _ _ _ _ (omega (arith, h)) ∙ sym (c .added-both .ensures .is ∙ ap (exactSum (heldBoth (a .before .loop .sum))) (t .term .ensures))),
+      near-both-more (omega arith) (c .added-both .ensures .near 16 (near a)),
     )
 
 returns-2 : tie.Need-returns-2 Inv-loop μ-loop
 returns-2 c =
     let a = c .before in
-    let s = start (a .before) in
-    (sym (summed-so-far a ∙ summed-end _ _ _ _ _ (omega (arith, c .if1 .left, row s .forward))), near-both-more (omega arith) (near a))
+    (sym (summed-so-far a ∙ summed-end _ _ _ _ _ (omega (arith, c .if1 .left, row (start (a .before)) .forward))), near-both-more (omega arith) (near a))
 
 pub wide-sum-spec : {M : Type 1} → statement M
 wide-sum-spec =
@@ -185,9 +171,9 @@ wide-sum-spec =
     sub-count
     nought-requires
     loop-holds
-    mul-next-two
-    add-next-two
-    next-two-requires
+    mul-wide-two
+    add-wide-two
+    wide-two-requires
     add-j
     loop-less
     loop-again
@@ -195,6 +181,6 @@ wide-sum-spec =
     mul-term
     add-term
     term-requires
-    next-requires
+    added-both-requires
     returns
     returns-2)

@@ -12,8 +12,8 @@ use Rattle.interval.proofs.Exchanged.{exchanged}
 use Rattle.inputs.specs.Place.{at}
 use Rattle.transfers.specs.Listing.{nth, share, transfersOf}
 use Rattle.transfers.specs.Rows.{term}
-use Rattle.transfers.proofs.internal.listed.term.Statement.{statement}
-use Rattle.transfers.proofs.internal.listed.term.Tie as tie
+use Rattle.transfers.proofs.internal.terms.term.Statement.{statement}
+use Rattle.transfers.proofs.internal.terms.term.Tie as tie
 
 record-requires : tie.Need-record-requires
 record-requires c κs = search needs
@@ -55,7 +55,7 @@ product-above-requires c κs =
     let d = c .before in
     let s = start d in
     let e = c .if1 .taken in
-    (share-proper d, (component-proper d, (rw (read-share d) (s .pre .0 .2 .over e), rw (d .read .ensures) (s .pre .1 .2 e .each _))))
+    (share-proper d, (component-proper d, (rw (read-share d) (s .pre .0 .2 .over e .0), rw (read-component d) (s .pre .0 .2 .over e .1))))
 
 returns : tie.Need-returns
 unfolding term
