@@ -16,7 +16,9 @@ use wide_sum::internal::sum::raised_both;
 ghost use mathlib.Core.Path.{_≡_};
 ghost use mathlib.Core.Bool.{true, false};
 ghost use Prim.Native.Nat.{_+_, _*_, _≤_, _<_};
+ghost use lib.IntN.{pos};
 ghost use lib.ListN.{length};
+ghost use lib.Signed.{_≤ℤ_};
 ghost use Rattle.interval.specs.Interval.{scale, exactSum, rounded};
 ghost use Rattle.interval.specs.Code.{Representable};
 ghost use Rattle.inputs.specs.System.{system};
@@ -76,6 +78,17 @@ fn short_sum(
     sum
 }
 
+// acc and v; above says that v is not below 0.
+fn wide_one(above: bool, acc: WideInterval, v: Interval) -> WideInterval
+    requires { ⌜ NearBoth 1_000 acc × (above ≡ true → (pos 0 ≤ℤ v .lo) × (pos 0 ≤ℤ v .hi)) ⌝ }
+    ensures { λ r. ⌜ AddedBoth acc v r ⌝ }
+{
+    if above {
+        return raised_both(acc, v);
+    }
+    added_both(acc, v)
+}
+
 // acc and the products of the records k and k + 1, in two words.
 fn wide_two(
     n: usize,
@@ -119,7 +132,7 @@ fn wide_sum(
     }
     if 2 * pairs < count {
         let u = term(n, above, rs, x, from + 2 * pairs);
-        return added_both(sum, u);
+        return wide_one(above, sum, u);
     }
     sum
 }

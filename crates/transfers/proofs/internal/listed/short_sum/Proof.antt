@@ -2,7 +2,7 @@ use mathlib.Core.Path.{_≡_, refl, sym, ap, subst, _∙_}
 use Prim.Native.Nat.{ℕ, _+_, _-_, _*_, _/_, _≤_}
 use native.Mathlib.Omega.{arith}
 use denote.Ref.{now}
-use Rattle.interval.specs.Interval.{exactSum, zero}
+use Rattle.interval.specs.Interval.{exactSum}
 use Rattle.interval.specs.Code.{Representable}
 use Rattle.rows.proofs.Size.{Small, zero-small}
 use Rattle.transfers.specs.Listing.{transfersOf}

@@ -1,6 +1,4 @@
 use mathlib.Core.Path.{sym, ap, subst, _∙_}
-use borrow.Author.Needs.{needs}
-use denote.Ref.{now}
 use Rattle.interval.specs.declared.Interval.{Interval}
 use Rattle.interval.specs.Interval.{exactSum}
 use Rattle.interval.specs.Code.{Representable}

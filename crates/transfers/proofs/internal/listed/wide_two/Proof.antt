@@ -1,6 +1,4 @@
 use mathlib.Core.Path.{sym, subst}
-use borrow.Author.Needs.{needs}
-use denote.Ref.{now}
 use lib.IntN.{pos}
 use lib.Signed.{_≤ℤ_}
 use Rattle.interval.specs.declared.Interval.{Interval}

@@ -9,7 +9,7 @@ use mir.Val.{SFits}
 use mir.ValLaws.{toZ-ofZ}
 use Rattle.integer.proofs.Order.{left, le-taken}
 use Rattle.inputs.specs.Place.{at}
-use Rattle.transfers.specs.Listing.{nth, transfersOf}
+use Rattle.transfers.specs.Listing.{transfersOf}
 use Rattle.transfers.specs.Rows.{component}
 use Rattle.transfers.proofs.internal.terms.is_above.Statement.{statement}
 use Rattle.transfers.proofs.internal.terms.is_above.Tie as tie
