@@ -84,9 +84,13 @@ module _ {n : ℕ} {rs : List (List ℤ)} {ends : List ℕ} {s a : Bool} (w : In
   unfolding term
   term-short e y k f g = let r = row-is .each k f (omega (arith, g)) in product-short _ _ (short-held (w .sums .few e) (r .held)) (r .order) (y .each _)
 
+-- a flag that is false promises nothing
+pub never : {A : Type 0} → false ≡ true → A
+never e = absurd (subst T (sym e) tt)
+
 -- whatever the signs
 pub signs-aside : {n : ℕ} {ts : List Transfer} {x : List ℤ} {a : Bool} {k : ℕ} → Factors n ts x a k → Factors n ts x false k
-signs-aside f = record { inside = f .inside; proper = f .proper; over = λ e. absurd (subst T (sym e) tt) }
+signs-aside f = record { inside = f .inside; proper = f .proper; over = never }
 
 -- ---- a product
 module _ {n : ℕ} {ts : List Transfer} {x : List ℤ} {a : Bool} {k : ℕ} (f : Factors n ts x a k) (s : Sound x) where

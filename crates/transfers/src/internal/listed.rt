@@ -16,9 +16,7 @@ use wide_sum::internal::sum::raised_both;
 ghost use mathlib.Core.Path.{_≡_};
 ghost use mathlib.Core.Bool.{true, false};
 ghost use Prim.Native.Nat.{_+_, _*_, _≤_, _<_};
-ghost use lib.IntN.{pos};
 ghost use lib.ListN.{length};
-ghost use lib.Signed.{_≤ℤ_};
 ghost use Rattle.interval.specs.Interval.{scale, exactSum, rounded};
 ghost use Rattle.interval.specs.Code.{Representable};
 ghost use Rattle.inputs.specs.System.{system};
@@ -78,31 +76,13 @@ fn short_sum(
     sum
 }
 
-// acc and v; above says that v is not below 0.
-fn wide_one(above: bool, acc: WideInterval, v: Interval) -> WideInterval
-    requires { ⌜ NearBoth 1_000 acc × (above ≡ true → (pos 0 ≤ℤ v .lo) × (pos 0 ≤ℤ v .hi)) ⌝ }
-    ensures { λ r. ⌜ AddedBoth acc v r ⌝ }
-{
-    if above {
-        return raised_both(acc, v);
-    }
-    added_both(acc, v)
-}
-
 // acc and the products of the records k and k + 1, in two words.
-fn wide_two(
-    n: usize,
-    above: bool,
-    rs: &[[i64; 4]],
-    x: &[i64],
-    k: usize,
-    acc: WideInterval,
-) -> WideInterval
-    requires { ⌜ (k + 1 < length (now rs)) × (length (now rs) ≤ 1_024) × Pair n (transfersOf (now rs)) (now x) above k ⌝ }
+fn wide_two(n: usize, rs: &[[i64; 4]], x: &[i64], k: usize, acc: WideInterval) -> WideInterval
+    requires { ⌜ (k + 1 < length (now rs)) × (length (now rs) ≤ 1_024) × Pair n (transfersOf (now rs)) (now x) false k ⌝ }
     requires { ⌜ (length (now x) ≡ 2 * n) × Sound (now x) × NearBoth 1_000 acc ⌝ }
     ensures { λ r. ⌜ AddedBoth acc (twoTerms (transfersOf (now (rs .entry))) (now (x .entry)) k) r ⌝ }
 {
-    if both_above(n, above, rs, x, k) {
+    if both_above(n, false, rs, x, k) {
         let u = two(n, true, rs, x, k);
         return raised_both(acc, u);
     }
@@ -111,16 +91,9 @@ fn wide_two(
 }
 
 // The sum of row i, unrounded, in two words.
-fn wide_sum(
-    n: usize,
-    above: bool,
-    rs: &[[i64; 4]],
-    ends: &[usize],
-    x: &[i64],
-    i: usize,
-) -> WideInterval
-    requires { ⌜ InRows n (now rs) (now ends) false above × (i < n) ⌝ }
-    requires { ⌜ (length (now x) ≡ 2 * n) × Sound (now x) × (above ≡ true → NoneBelow (now x)) ⌝ }
+fn wide_sum(n: usize, rs: &[[i64; 4]], ends: &[usize], x: &[i64], i: usize) -> WideInterval
+    requires { ⌜ InRows n (now rs) (now ends) false false × (i < n) ⌝ }
+    requires { ⌜ (length (now x) ≡ 2 * n) × Sound (now x) ⌝ }
     ensures { λ v. ⌜ (heldBoth v ≡ rowSum (transfersOf (now (rs .entry))) (now (ends .entry)) (now (x .entry)) i) × NearBoth 1_000 v ⌝ }
 {
     let from = ends[i];
@@ -128,11 +101,11 @@ fn wide_sum(
     let pairs = count / 2;
     let mut sum = nought();
     for j in 0..pairs {
-        sum = wide_two(n, above, rs, x, from + 2 * j, sum);
+        sum = wide_two(n, rs, x, from + 2 * j, sum);
     }
     if 2 * pairs < count {
-        let u = term(n, above, rs, x, from + 2 * pairs);
-        return wide_one(above, sum, u);
+        let u = term(n, false, rs, x, from + 2 * pairs);
+        return added_both(sum, u);
     }
     sum
 }
@@ -146,7 +119,7 @@ fn rounded(v: Interval) -> Interval
     Interval { lo, hi }
 }
 
-// The sum of row i, rounded outward to units. The sum in two words is called at two places, so that in each the compiler knows the signs and has a loop without tests of them.
+// The sum of row i, rounded outward to units. In two words it does not pay to know the signs beforehand.
 fn row_sum(n: usize, known: Known, rs: &[[i64; 4]], ends: &[usize], x: &[i64], i: usize) -> Interval
     requires { ⌜ InRows n (now rs) (now ends) (known .short) (known .above) × (i < n) ⌝ }
     requires { ⌜ (length (now x) ≡ 2 * n) × Sound (now x) × (known .above ≡ true → NoneBelow (now x)) ⌝ }
@@ -156,11 +129,7 @@ fn row_sum(n: usize, known: Known, rs: &[[i64; 4]], ends: &[usize], x: &[i64], i
         let s = short_sum(n, known.above, rs, ends, x, i);
         return rounded(s);
     }
-    if known.above {
-        let w = wide_sum(n, true, rs, ends, x, i);
-        return rounded_from_two(w);
-    }
-    let w = wide_sum(n, false, rs, ends, x, i);
+    let w = wide_sum(n, rs, ends, x, i);
     rounded_from_two(w)
 }
 

@@ -1,14 +1,9 @@
-use mathlib.Core.Path.{_≡_, sym, ap, subst, _∙_}
-use mathlib.Core.Bool.{true, false}
+use mathlib.Core.Path.{ap, _∙_}
 use borrow.Author.Needs.{needs}
-use lib.Dec.{T}
 use Rattle.interval.specs.Interval.{scale, rounded}
-use Rattle.transfers.proofs.Terms.{less-known}
+use Rattle.transfers.proofs.Terms.{less-known, never}
 use Rattle.transfers.proofs.internal.listed.row_sum.Statement.{statement}
 use Rattle.transfers.proofs.internal.listed.row_sum.Tie as tie
-
-never : {A : Type 0} → false ≡ true → A
-never e = absurd (subst T (sym e) tt)
 
 short-sum-requires : tie.Need-short-sum-requires
 short-sum-requires c κs = let s = c .before .before in ((less-known (s .pre .0 .0) (λ e. c .if1 .taken) (λ e. e), s .pre .0 .1), s .pre .1)
@@ -20,10 +15,7 @@ returns : tie.Need-returns
 returns c = c .rounded .ensures ∙ ap (rounded scale) (c .before .short-sum .ensures)
 
 wide-sum-requires : tie.Need-wide-sum-requires
-wide-sum-requires c κs =
-    let s = c .before .before .before in
-    let x = s .pre .1 in
-    ((less-known (s .pre .0 .0) never (λ e. c .if2 .taken), s .pre .0 .1), (x .0, x .1, λ e. x .2 (c .if2 .taken)))
+wide-sum-requires c κs = let s = c .before .before in ((less-known (s .pre .0 .0) never never, s .pre .0 .1), (s .pre .1 .0, s .pre .1 .1))
 
 rounded-requires-2 : tie.Need-rounded-requires-2
 rounded-requires-2 c κs = search needs
@@ -31,28 +23,5 @@ rounded-requires-2 c κs = search needs
 returns-2 : tie.Need-returns-2
 returns-2 c = c .rounded2 .ensures .0 ∙ ap (rounded scale) (c .before .wide-sum .ensures .0)
 
-wide-sum-requires-2 : tie.Need-wide-sum-requires-2
-wide-sum-requires-2 c κs =
-    let s = c .before .before .before in
-    let x = s .pre .1 in
-    ((less-known (s .pre .0 .0) never never, s .pre .0 .1), (x .0, x .1, never))
-
-rounded-requires-3 : tie.Need-rounded-requires-3
-rounded-requires-3 c κs = search needs
-
-returns-3 : tie.Need-returns-3
-returns-3 c = c .rounded3 .ensures .0 ∙ ap (rounded scale) (c .before .wide-sum2 .ensures .0)
-
 pub row-sum-spec : {M : Type 1} → statement M
-row-sum-spec =
-    tie.close
-    (tie.spec
-    short-sum-requires
-    rounded-requires
-    returns
-    wide-sum-requires
-    rounded-requires-2
-    returns-2
-    wide-sum-requires-2
-    rounded-requires-3
-    returns-3)
+row-sum-spec = tie.close (tie.spec short-sum-requires rounded-requires returns wide-sum-requires rounded-requires-2 returns-2)

@@ -1,11 +1,8 @@
-use mathlib.Core.Path.{_≡_, sym, ap, subst, _∙_}
+use mathlib.Core.Path.{_≡_, sym, ap, _∙_}
 use Prim.Native.Nat.{ℕ, _+_, _-_, _*_, _/_, _≤_}
 use native.Mathlib.Omega.{arith}
 use borrow.Author.Needs.{needs}
 use denote.Ref.{now}
-use lib.IntN.{pos}
-use lib.Signed.{_≤ℤ_}
-use Rattle.interval.specs.declared.Interval.{Interval}
 use Rattle.interval.specs.Interval.{exactSum}
 use Rattle.wide_sum.specs.Wide.{heldBoth}
 use Rattle.wide_sum.specs.Code.{NearBoth}
@@ -13,17 +10,17 @@ use Rattle.wide_sum.proofs.Near.{near-both-more}
 use Rattle.transfers.specs.Listing.{transfersOf}
 use Rattle.transfers.specs.Rows.{RowOf, end, summed, rowSum}
 use Rattle.transfers.proofs.Rows.{summed-end, summed-go, summed-two}
-use Rattle.transfers.proofs.Terms.{row-is, row-few, row-inside, row-near, factors, pair, term-above}
+use Rattle.transfers.proofs.Terms.{row-is, row-few, row-inside, row-near, factors, pair, never}
 use Rattle.transfers.proofs.internal.listed.wide_sum.Statement.{statement}
 use Rattle.transfers.proofs.internal.listed.wide_sum.Tie as tie
 
 -- j pairs are added
 abbrev Inv-loop : tie.InvT-loop
-Inv-loop n above rs ends x i from count pairs sum₀ j₀ sum j =
+Inv-loop n rs ends x i from count pairs sum₀ j₀ sum j =
     (j ≤ pairs) × (rowSum (transfersOf rs) ends x i ≡ summed (transfersOf rs) x (end ends (i + 1) - (from + 2 * j)) (from + 2 * j) (heldBoth sum)) × NearBoth j sum
 
 abbrev μ-loop : tie.MeasureT-loop
-μ-loop n above rs ends x i from count pairs sum₀ j₀ sum j = pairs - j
+μ-loop n rs ends x i from count pairs sum₀ j₀ sum j = pairs - j
 
 -- ---- the row
 abbrev first : tie.Start Inv-loop μ-loop → ℕ
@@ -88,7 +85,7 @@ wide-two-requires c κs =
     let s = start l in
     let h = left-two c in
     let x = s .pre .1 in (
-      (omega (arith, h, row-inside (s .pre .0 .0) (s .pre .0 .1)), s .pre .0 .0 .list, pair (s .pre .0 .0) (s .pre .0 .1) (x .2) _ (omega arith) (omega (arith, h))),
+      (omega (arith, h, row-inside (s .pre .0 .0) (s .pre .0 .1)), s .pre .0 .0 .list, pair (s .pre .0 .0) (s .pre .0 .1) never _ (omega arith) (omega (arith, h))),
       (x .0, x .1, near-both-more (omega (arith, h, near-by s)) (l .loop .inv .2)),
     )
 
@@ -139,16 +136,10 @@ term-requires c κs =
     let w = s .pre .0 in
     let x = s .pre .1 in
     let h = last c in
-    ((omega (arith, h, row-inside (w .0) (w .1)), w .0 .list, factors (w .0) (w .1) (x .2) _ (omega arith) (omega (arith, h))), (x .0, x .1))
+    ((omega (arith, h, row-inside (w .0) (w .1)), w .0 .list, factors (w .0) (w .1) never _ (omega arith) (omega (arith, h))), (x .0, x .1))
 
-wide-one-requires : tie.Need-wide-one-requires Inv-loop μ-loop
-wide-one-requires c κs =
-    let d = c .before in
-    let s = start (d .before .before) in
-    let w = s .pre .0 in
-    let x = s .pre .1 in
-    let f = factors (w .0) (w .1) (x .2) (first s + 2 * ((past s - first s) / 2)) (omega arith) (omega (arith, last d)) in
-    (near-both-more (omega arith) (near (d .before)), λ e. subst (λ (v : Interval). (pos 0 ≤ℤ v .lo) × (pos 0 ≤ℤ v .hi)) (sym (c .term .ensures)) (term-above f (x .1) e))
+added-both-requires : tie.Need-added-both-requires Inv-loop μ-loop
+added-both-requires c κs = near-both-more (omega arith) (near (c .before .before))
 
 returns : tie.Need-returns Inv-loop μ-loop
 returns c =
@@ -157,8 +148,8 @@ returns c =
     let a = d .before in
     let h = last d in (
       sym
-          (summed-so-far a ∙ summed-go _ _ _ _ _ (omega (arith, h)) ∙ summed-end _ _ _ _ _ (omega (arith, h)) ∙ sym (c .wide-one .ensures .is ∙ ap (exactSum (heldBoth (a .before .loop .sum))) (t .term .ensures))),
-      near-both-more (omega arith) (c .wide-one .ensures .near 16 (near a)),
+          (summed-so-far a ∙ summed-go _ _ _ _ _ (omega (arith, h)) ∙ summed-end _ _ _ _ _ (omega (arith, h)) ∙ sym (c .added-both .ensures .is ∙ ap (exactSum (heldBoth (a .before .loop .sum))) (t .term .ensures))),
+      near-both-more (omega arith) (c .added-both .ensures .near 16 (near a)),
     )
 
 returns-2 : tie.Need-returns-2 Inv-loop μ-loop
@@ -190,6 +181,6 @@ wide-sum-spec =
     mul-term
     add-term
     term-requires
-    wide-one-requires
+    added-both-requires
     returns
     returns-2)

@@ -3,7 +3,7 @@ use lib.IntN.{pos}
 use lib.Signed.{_≤ℤ_}
 use Rattle.interval.specs.declared.Interval.{Interval}
 use Rattle.wide_sum.specs.Code.{AddedBoth}
-use Rattle.transfers.proofs.Terms.{signs-aside, two-above}
+use Rattle.transfers.proofs.Terms.{two-above}
 use Rattle.transfers.proofs.internal.listed.wide_two.Statement.{statement}
 use Rattle.transfers.proofs.internal.listed.wide_two.Tie as tie
 
@@ -27,10 +27,7 @@ returns c =
     subst (λ (v : Interval). AddedBoth (s .args .acc) v (c .raised-both .result)) (c .before .two .ensures) (c .raised-both .ensures)
 
 two-requires-2 : tie.Need-two-requires-2
-two-requires-2 c κs =
-    let s = c .before .before in
-    let p = s .pre .0 .2 in
-    ((s .pre .0 .0, s .pre .0 .1, (signs-aside (p .0), signs-aside (p .1))), (s .pre .1 .0, s .pre .1 .1))
+two-requires-2 c κs = let s = c .before .before in (s .pre .0, (s .pre .1 .0, s .pre .1 .1))
 
 added-both-requires : tie.Need-added-both-requires
 added-both-requires c κs = c .before .before .before .pre .1 .2
