@@ -11,6 +11,7 @@ pub mod Square
 pub mod Places
 pub mod RowEnd
 pub mod Short
+pub mod Rounding
 pub mod Rows
 pub mod Terms
 pub mod Passes

@@ -4,6 +4,7 @@ pub mod gather;
 pub mod gathered;
 pub mod listed;
 pub mod passes;
+pub mod rounding;
 pub mod square;
 pub mod terms;
 pub mod tests;

@@ -1,15 +1,14 @@
 // The sum of a row over its records alone, in one word or in two; and the new component.
+use crate::internal::rounding::rounded;
+use crate::internal::rounding::rounded_from_two;
 use crate::internal::terms::both_above;
 use crate::internal::terms::term;
 use crate::internal::terms::two;
 use inputs::internal::read;
-use integer::internal::ceil_div;
-use integer::internal::floor_div;
 use interval::Interval;
 use interval::internal::intersection;
 use interval::internal::sum as add;
 use wide_sum::WideInterval;
-use wide_sum::internal::rounding::rounded as rounded_from_two;
 use wide_sum::internal::sum::added_both;
 use wide_sum::internal::sum::nought;
 use wide_sum::internal::sum::raised_both;
@@ -108,15 +107,6 @@ fn wide_sum(n: usize, rs: &[[i64; 4]], ends: &[usize], x: &[i64], i: usize) -> W
         return added_both(sum, u);
     }
     sum
-}
-
-// Rounded outward to units.
-fn rounded(v: Interval) -> Interval
-    ensures { λ r. ⌜ r ≡ rounded scale v ⌝ }
-{
-    let lo = floor_div(v.lo, Interval::SCALE);
-    let hi = ceil_div(v.hi, Interval::SCALE);
-    Interval { lo, hi }
 }
 
 // The sum of row i, rounded outward to units. In two words it does not pay to know the signs beforehand.

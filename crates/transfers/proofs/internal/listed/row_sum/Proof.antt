@@ -17,11 +17,11 @@ returns c = c .rounded .ensures ∙ ap (rounded scale) (c .before .short-sum .en
 wide-sum-requires : tie.Need-wide-sum-requires
 wide-sum-requires c κs = let s = c .before .before in ((less-known (s .pre .0 .0) never never, s .pre .0 .1), (s .pre .1 .0, s .pre .1 .1))
 
-rounded-requires-2 : tie.Need-rounded-requires-2
-rounded-requires-2 c κs = search needs
+rounded-from-two-requires : tie.Need-rounded-from-two-requires
+rounded-from-two-requires c κs = c .wide-sum .ensures .1
 
 returns-2 : tie.Need-returns-2
-returns-2 c = c .rounded2 .ensures .0 ∙ ap (rounded scale) (c .before .wide-sum .ensures .0)
+returns-2 c = c .rounded-from-two .ensures ∙ ap (rounded scale) (c .before .wide-sum .ensures .0)
 
 pub row-sum-spec : {M : Type 1} → statement M
-row-sum-spec = tie.close (tie.spec short-sum-requires rounded-requires returns wide-sum-requires rounded-requires-2 returns-2)
+row-sum-spec = tie.close (tie.spec short-sum-requires rounded-requires returns wide-sum-requires rounded-from-two-requires returns-2)

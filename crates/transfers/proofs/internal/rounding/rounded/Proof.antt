@@ -7,8 +7,8 @@ use mir.ValLaws.{toZ-ofZ}
 use Rattle.integer.specs.Rounding.{floorDiv, ceilDiv}
 use Rattle.integer.proofs.Machine.{plain}
 use Rattle.interval.specs.Interval.{scale, rounded}
-use Rattle.transfers.proofs.internal.listed.rounded.Statement.{statement}
-use Rattle.transfers.proofs.internal.listed.rounded.Tie as tie
+use Rattle.transfers.proofs.internal.rounding.rounded.Statement.{statement}
+use Rattle.transfers.proofs.internal.rounding.rounded.Tie as tie
 
 floor-div-requires : tie.Need-floor-div-requires
 floor-div-requires c κs = search needs
