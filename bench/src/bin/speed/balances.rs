@@ -129,6 +129,13 @@ pub fn far(n: usize) -> Case {
     with_last_of(case, &emptied(n))
 }
 
+/// With one share in the middle that reaches as far below 0 as above it.
+pub fn dipped(mut case: Case) -> Case {
+    let place = case.n * (case.n / 2) + case.n / 2;
+    case.matrix[2 * place] = -case.matrix[2 * place + 1];
+    case
+}
+
 /// `wide` or `far`, with the last vat as in `slow_noughts`.
 pub fn slowly(case: Case) -> Case {
     let slow = slow_noughts(case.n);

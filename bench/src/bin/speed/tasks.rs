@@ -1,8 +1,8 @@
 //! What is done by both sides.
 
 use crate::balances::{
-    far, heavy_row, listed, longest, mixed, noughts, shares, slow, slow_noughts, slowly, thinned,
-    wide, with_wide_box,
+    dipped, far, heavy_row, listed, longest, mixed, noughts, shares, slow, slow_noughts, slowly,
+    thinned, wide, with_wide_box,
 };
 use kifwaleb::{HalfRows, LOWEST};
 use kifwaleb_bench::archive::Archive;
@@ -30,7 +30,7 @@ pub enum Side {
 /// What a task is called, and how it is made for so many vats.
 pub type Kind = (&'static str, fn(usize) -> Task);
 
-pub const KINDS: [Kind; 38] = [
+pub const KINDS: [Kind; 40] = [
     ("eliminate-shares", |n| Task::Eliminate(shares(n))),
     ("eliminate-mixed", |n| Task::Eliminate(mixed(n))),
     ("start-shares", |n| Task::Start(shares(n))),
@@ -99,6 +99,10 @@ pub const KINDS: [Kind; 38] = [
     ("full-wides", |n| Task::full(slowly(wide(n)), SWEEPS)),
     ("full-far", |n| Task::full(far(n), ONE_SWEEP)),
     ("full-fars", |n| Task::full(slowly(far(n)), SWEEPS)),
+    ("full-dip", |n| {
+        Task::full(dipped(with_wide_box(shares(n))), ONE_SWEEP)
+    }),
+    ("full-fardip", |n| Task::full(dipped(far(n)), ONE_SWEEP)),
     ("read-longest", |n| Task::report(&crossed(longest(n)))),
     ("read-noughts", |n| {
         Task::on_text(short_named_text(&crossed(noughts(n))))
