@@ -1,6 +1,5 @@
 // The calls for programs in C and Rust, in the archive that 'rt staticlib capi' makes.
 pub mod boxes;
-pub mod desks;
 pub mod halves;
 pub mod lists;
 pub mod steps;

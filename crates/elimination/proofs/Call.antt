@@ -1,10 +1,11 @@
 -- The working copy of a call, and the whole calculation from its parts.
 use mathlib.Core.Path.{◌≡◌, ◌∙◌}
 use mathlib.Core.List.{List}
-use Prim.Native.Nat.{ℕ, ◌+◌, ◌*◌, ◌≤◌}
+use Prim.Native.Nat.{ℕ, ◌+◌, ◌*◌, ◌≤◌, ◌<◌}
 use native.Mathlib.Omega.{arith}
+use native.Mathlib.Decide.{dec_lt}
 use lib.IntN.{ℤ, pos}
-use lib.ListN.{length, take, drop, replicate, length-append, length-drop, length-replicate}
+use lib.ListN.{length, take, drop, replicate, get_or, length-append, length-drop, length-replicate, get_or-replicate, get_or-eq_default}
 use lib.Seq.{get_or-drop}
 use Rattle.outcome.specs.declared.Outcome.{Outcome}
 use Rattle.outcome.specs.declared.Outcome.TheVariants as outcome
@@ -13,15 +14,22 @@ use Rattle.inputs.specs.System.{System}
 use Rattle.inputs.specs.Code.{Ended}
 use Rattle.inputs.proofs.Tests.{square}
 use Rattle.inputs.proofs.System.{Ready}
-use Rattle.inputs.proofs.Place.{nought_at, sound_append, sound_noughts}
+use Rattle.inputs.proofs.Place.{sound_append, sound_noughts}
 use Rattle.rows.specs.Sum.{once}
 use Rattle.forward.specs.Pivot.{lowest_row}
 use Rattle.forward.specs.Forward.{Table, table, forward}
 use Rattle.elimination.specs.Back.{back}
-use Rattle.elimination.specs.Call.{copied, box, none_taken, substituted, solved}
+use Rattle.elimination.specs.Call.{copied, box, none_taken, solved}
 use Rattle.forward.specs.Code.{Working}
 
 -- ---- the working copy
+noughts : (i : ℕ) → get_or (replicate 2112 (pos 0)) i (pos 0) ≡ pos 0
+noughts i = go (dec_lt i 2112)
+  where
+    go : Dec (i < 2112) → get_or (replicate 2112 (pos 0)) i (pos 0) ≡ pos 0
+    go (yes h) = get_or-replicate 2112 i (pos 0) (pos 0) h
+    go (no h) = get_or-eq_default (replicate 2112 (pos 0)) (pos 0) {n = i} (rw (length-replicate 2112 (pos 0)) (omega (arith, h)))
+
 module _ (s : System) (l : ℕ) (r : Ready s l) where
   pub copied_fits : length s.matrix + length s.right ≤ 2112
   copied_fits = let g = r.fitting in omega (arith, g.few, g.matrix, g.right, square s.size g.few)
@@ -40,26 +48,23 @@ module _ (s : System) (l : ℕ) (r : Ready s l) where
         room = omega (arith, copied_length, g.few, square s.size g.few);
         sound = sound_append s.matrix _ (s.size * s.size) g.matrix r.proper.matrix
             (sound_append s.right _ s.size g.right r.proper.right
-            (sound_noughts _ (λ i. get_or-drop k (replicate 2112 (pos 0)) i (pos 0) ∙ nought_at 2112 (k + i))));
+            (sound_noughts _ (λ i. get_or-drop k (replicate 2112 (pos 0)) i (pos 0) ∙ noughts (k + i))));
       }
 
 -- ---- the calculation from its parts
 module _ (n : ℕ) (t x : List ℤ) where
-  pub substituted_stop : {o : Outcome} → back once n n t ≡ refused o → Ended (substituted once n t) o x x
-  unfolding and_then ended
-  substituted_stop f = record { is = rw f }
-
-  pub substituted_done : {t₁ y : List ℤ} → back once n n t ≡ done t₁ → length x ≡ 2 * n → y ≡ take (length x) (drop (2 * (n * n)) t₁) → Ended (substituted once n t) outcome.Done x y
-  unfolding and_then box ended
-  substituted_done f l g = record { is = rw (f, ← l, g) }
-
   pub ended_forward : {o : Outcome} → forward lowest_row n (table t none_taken) ≡ refused o → Ended (solved lowest_row once n t) o x x
   unfolding solved and_then ended
   ended_forward e = record { is = rw e }
 
-  pub ended_substituted : {s : Table} {o : Outcome} {y : List ℤ} → forward lowest_row n (table t none_taken) ≡ done s → Ended (substituted once n s.numbers) o x y → Ended (solved lowest_row once n t) o x y
-  unfolding solved and_then
-  ended_substituted e f = rw e f
+  module _ {s : Table} (e : forward lowest_row n (table t none_taken) ≡ done s) where
+    pub ended_back : {o : Outcome} → back once n n s.numbers ≡ refused o → Ended (solved lowest_row once n t) o x x
+    unfolding solved and_then ended
+    ended_back f = record { is = rw (e, f) }
+
+    pub ended_done : {t₁ y : List ℤ} → back once n n s.numbers ≡ done t₁ → length x ≡ 2 * n → y ≡ take (length x) (drop (2 * (n * n)) t₁) → Ended (solved lowest_row once n t) outcome.Done x y
+    unfolding solved and_then box ended
+    ended_done f l g = record { is = rw (e, f, ← l, g) }
 
 -- a part that stops ends the whole
 pub ended_stop : {r : Run (List ℤ)} {o : Outcome} (f : List ℤ → Run (List ℤ)) (x : List ℤ) → r ≡ refused o → Ended (and_then r f) o x x

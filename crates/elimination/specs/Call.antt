@@ -21,12 +21,8 @@ box n t = take (2 * n) (drop (2 * (n * n)) t)
 abbrev pub none_taken : List ℤ
 none_taken = replicate 32 (pos 0)
 
--- after the forward part: back-substitution
-abbrev pub substituted : RowSum → (n : ℕ) → List ℤ → Run (List ℤ)
-substituted sum n t = and_then (back sum n n t) (λ t₁. done (box n t₁))
-
 unfoldable pub solved : Pivoting → RowSum → (n : ℕ) → List ℤ → Run (List ℤ)
-solved p sum n t = and_then (forward p n (table t none_taken)) (λ s. substituted sum n s.numbers)
+solved p sum n t = and_then (forward p n (table t none_taken)) (λ s. and_then (back sum n n s.numbers) (λ t₁. done (box n t₁)))
 
 -- the runs over A and f, and over B and b, with the pivoting and the row sum that are given. 'Neither reads what its lent box holds':
 -- they are given its length

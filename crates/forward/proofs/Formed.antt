@@ -33,7 +33,7 @@ pub identity_other : (i j : ℕ) → (i ≡ j → ⊥) → zero ≡ identity i j
 unfolding identity
 identity_other i j h = rw (ne_eqb i j h)
 
-pub identity_accepted : (i j : ℕ) → acceptable (identity i j) ≡ true
+identity_accepted : (i j : ℕ) → acceptable (identity i j) ≡ true
 unfolding identity acceptable in_range within lowest highest scale
 identity_accepted i j = go (eqb i j)
   where

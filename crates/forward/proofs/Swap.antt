@@ -1,16 +1,16 @@
 -- Where the intervals stand after two rows have changed places.
-use mathlib.Core.Path.{◌≡◌, refl, sym, ◌∙◌, subst}
+use mathlib.Core.Path.{◌≡◌, refl, sym, ap, ◌∙◌, subst}
 use mathlib.Core.Logic.{◌≢◌}
-use mathlib.Core.List.{List}
+use mathlib.Core.List.{List, [], ◌∷◌}
 use Prim.Native.Nat.{ℕ, zero, suc, ◌+◌, ◌-◌, ◌*◌, ◌≤◌, ◌<◌}
 use native.Mathlib.Omega.{arith}
 use native.Mathlib.Decide.{ℕ_discrete, dec_lt}
-use lib.IntN.{ℤ}
-use lib.ListN.{length}
+use lib.IntN.{ℤ, pos}
+use lib.ListN.{length, get_or, set}
 use Rattle.interval.specs.declared.Interval.{Interval}
 use Rattle.inputs.specs.Place.{at, put, cell}
 use Rattle.inputs.specs.Code.{Sound}
-use Rattle.inputs.proofs.Place.{length_put, at_put_same, at_put_other, put_self, sound_put, cell_before}
+use Rattle.inputs.proofs.Place.{length_put, at_put_same, at_put_other, sound_put, cell_before}
 use Rattle.inputs.proofs.Tests.{rows_apart}
 use Rattle.forward.specs.Run.{rhs}
 use Rattle.forward.specs.Pivot.{exchanged, swapped_columns, swapped}
@@ -19,6 +19,15 @@ use Rattle.forward.proofs.Index.{cell_room}
 use Rattle.forward.proofs.Step.{turn}
 
 -- ---- a row with itself
+set_self : (t : List ℤ) (p : ℕ) → set t p (get_or t p (pos 0)) ≡ t
+set_self [] p = refl
+set_self (x ∷ t) zero = refl
+set_self (x ∷ t) (suc p) = ap (λ l. x ∷ l) (set_self t p)
+
+put_self : (t : List ℤ) (p : ℕ) → put t p (at t p) ≡ t
+unfolding put at
+put_self t p = rw (set_self t (2 * p), set_self t (2 * p + 1))
+
 exchanged_self : (p : ℕ) (t : List ℤ) → exchanged p p t ≡ t
 unfolding exchanged
 exchanged_self p t = rw (put_self t p) (put_self t p)
@@ -50,7 +59,7 @@ module _ (p q : ℕ) (t : List ℤ) where
   unfolding exchanged
   exchanged_other r m n = at_put_other (put t p (at t q)) q r (at t p) n ∙ at_put_other t p r (at t q) m
 
-  pub exchanged_sound : Sound t → 2 * p + 1 < length t → 2 * q + 1 < length t → Sound (exchanged p q t)
+  exchanged_sound : Sound t → 2 * p + 1 < length t → 2 * q + 1 < length t → Sound (exchanged p q t)
   unfolding exchanged
   exchanged_sound s h k = sound_put (put t p (at t q)) q (at t p) (sound_put t p (at t q) s h (s.each q)) (rw length_put k) (s.each p)
 

@@ -17,8 +17,7 @@ use Rattle.inputs.specs.Tests.{proper}
 use Rattle.inputs.specs.System.{System, system}
 use Rattle.rows.specs.Sum.{exactly}
 use Rattle.rows.proofs.Exact.{one_product}
-use Rattle.inputs.specs.Parts.{part}
-use Rattle.half_rows.specs.Rows.{first, beside, begin, half_row, side, joined}
+use Rattle.half_rows.specs.Rows.{first, beside, begin, part, half_row, side, joined}
 use Rattle.half_rows.specs.declared.internal.row.RowStep.{RowStep}
 use Rattle.half_rows.specs.Code.{side_on, joined_on, passes, Stepped}
 

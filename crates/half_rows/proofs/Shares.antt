@@ -27,8 +27,7 @@ use Rattle.rows.specs.Code.{Summed}
 use Rattle.rows.specs.Word.{Modest, SumModest, NextAbove}
 use Rattle.rows.proofs.Exact.{one_product, exactly_from, exactly_later}
 use Rattle.rows.proofs.Word.{nought_modest}
-use Rattle.inputs.specs.Parts.{part}
-use Rattle.half_rows.specs.Rows.{first, beside, begin}
+use Rattle.half_rows.specs.Rows.{first, beside, begin, part}
 use Rattle.half_rows.specs.declared.internal.tested.Tested.{Tested}
 use Rattle.half_rows.specs.declared.internal.tested.Tested.TheVariants.{Ill, Sum}
 use Rattle.half_rows.specs.Code.{AllShares, NoShare, SumTested, SideSummed, passes}

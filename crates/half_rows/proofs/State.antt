@@ -12,9 +12,35 @@ use lib.ListN.{length, get_or, drop, length-drop}
 use lib.Seq.{length-take-le}
 use lib.Signed.{◌≤ℤ◌, le_z}
 use Rattle.integer.proofs.Order.{le_taken}
-use Rattle.inputs.specs.Parts.{up_to}
-use Rattle.inputs.proofs.Parts.{up_to_most}
-use Rattle.half_rows.specs.State.{state_length, size_of, sums_place, due}
+use Rattle.half_rows.specs.Rows.{part}
+use Rattle.half_rows.specs.State.{state_length, up_to, size_of, sums_place, due}
+
+-- ---- a number from 1 to k
+module _ (k : ℕ) (z : ℤ) where
+  pub up_to_in : le_z (pos 1) z ≡ true → le_z z (pos k) ≡ true → nat_abs z ≡ up_to k z
+  unfolding up_to
+  up_to_in a b = rw (a, b)
+
+  pub up_to_above : le_z (pos 1) z ≡ true → le_z z (pos k) ≡ false → 0 ≡ up_to k z
+  unfolding up_to
+  up_to_above a b = rw (a, b)
+
+  pub up_to_below : le_z (pos 1) z ≡ false → 0 ≡ up_to k z
+  unfolding up_to
+  up_to_below a = rw a
+
+  pub up_to_most : up_to k z ≤ k
+  unfolding up_to
+  up_to_most = go (le_z (pos 1) z) (le_z z (pos k)) refl refl
+    where
+      few : (z : ℤ) → z ≤ℤ pos k → le_z (pos 1) z ≡ true → nat_abs z ≤ k
+      few (pos n) l e = leb→le n k l.le
+      few (negsuc n) l e = absurd (subst T (sym e) tt)
+
+      go : (a b : Bool) → le_z (pos 1) z ≡ a → le_z z (pos k) ≡ b → cond (a && b) (nat_abs z) 0 ≤ k
+      go true true p q = few z (le_taken z (pos k) q) p
+      go true false p q = omega arith
+      go false b p q = omega arith
 
 -- ---- the size
 module _ (t : List ℤ) where
@@ -36,6 +62,9 @@ module _ (t : List ℤ) where
       go false e f = absurd (f refl)
 
 -- ---- parts
+pub part_length : (t : List ℤ) (from count : ℕ) → from + count ≤ length t → length (part t from count) ≡ count
+part_length t from count h = length-take-le count (drop from t) (rw (length-drop from t) (omega arith))
+
 pub sums_end : (back : Bool) → sums_place back + 128 ≤ 386
 unfolding sums_place
 sums_end true = omega arith

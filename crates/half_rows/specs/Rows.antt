@@ -11,7 +11,6 @@ use Rattle.interval.specs.Interval.{ends, scale, acceptable, exact_sum, exact_pr
 use Rattle.inputs.specs.declared.Test.{Test}
 use Rattle.inputs.specs.declared.Test.TheVariants.{Pass, Fail}
 use Rattle.inputs.specs.Place.{at, put, cell}
-use Rattle.inputs.specs.Parts.{part}
 use Rattle.inputs.specs.Tests.{proper}
 use Rattle.inputs.specs.System.{System}
 use Rattle.rows.specs.Sum.{exactly}
@@ -43,6 +42,10 @@ joined back s X i k =
 unfoldable pub of_state : {A : Type 0} → Test → Run A → Run A
 of_state Pass r = r
 of_state (Fail o) r = refused outcome.NotDue
+
+-- so many numbers of a list from a place on
+abbrev pub part : List ℤ → (from count : ℕ) → List ℤ
+part t from count = take count (drop from t)
 
 -- row i from its beginning to the diagonal, or from the diagonal to its end
 unfoldable pub begin : (back : Bool) → (i : ℕ) → ℕ

@@ -3,7 +3,7 @@ use Rattle.std.specs.Prelude.{Bool, cond, ◌&&◌, List, ℕ, ◌*◌, eqb, ℤ
 use Rattle.std.proofs.Math.Seq.{paste}
 use Rattle.std.specs.Int.Signed.{le_z}
 use Rattle.inputs.specs.System.{System, system}
-use Rattle.inputs.specs.Parts.{part, placed, up_to}
+use Rattle.half_rows.specs.Rows.{part}
 
 abbrev pub state_length : ℕ
 state_length = 2_434
@@ -11,6 +11,10 @@ state_length = 2_434
 -- 'the empty one', in which nothing is loaded
 abbrev pub empty : List ℤ
 empty = replicate state_length (pos 0)
+
+-- a number from 1 to k, or else 0
+unfoldable pub up_to : (k : ℕ) → ℤ → ℕ
+up_to k z = cond (le_z (pos 1) z && le_z z (pos k)) (nat_abs z) 0
 
 -- ---- the parts: n, or 0 where nothing is loaded; the half pass that is due, 1 up and 2 down
 unfoldable pub size_of : List ℤ → ℕ
@@ -33,6 +37,9 @@ abbrev pub sums_of : (back : Bool) → List ℤ → (n : ℕ) → List ℤ
 sums_of back t n = part t (sums_place back) (4 * n)
 
 -- ---- the state with other parts
+abbrev pub placed : List ℤ → (from : ℕ) → List ℤ → List ℤ
+placed t from u = paste t from u (length u)
+
 unfoldable pub due : (back : Bool) → ℕ
 due back = cond back 2 1
 

@@ -3,6 +3,7 @@ pub mod Kept
 pub mod Way
 pub mod Half
 pub mod Renewed
+pub mod Parts
 pub mod State
 pub mod Loaded
 pub mod Does

@@ -6,16 +6,22 @@ use mathlib.Core.List.{List}
 use Prim.Native.Nat.{ℕ, ◌+◌, ◌*◌, ◌≤◌, ◌<◌}
 use native.Mathlib.Omega.{arith}
 use borrow.Author.Tests.{eq-eqb}
+use lib.Dec.{le→leb}
 use lib.IntN.{ℤ, pos}
 use lib.ListN.{get_or, length, length-set}
 use lib.Seq.{get_or-set_same, get_or-set_other}
+use Rattle.integer.proofs.Order.{yes_le}
 use Rattle.inputs.specs.System.{System, system}
 use Rattle.inputs.proofs.Tests.{square}
-use Rattle.inputs.specs.Parts.{part, placed, up_to}
-use Rattle.half_rows.specs.State.{state_length, size_of, turn_of, box_of, system_of, sums_place, sums_of, due, with_turn, with_box, with_sums, with_system}
-use Rattle.inputs.proofs.Parts.{length_part, part_set, length_placed, number_before, part_placed, part_beside, up_to_lem}
+use Rattle.half_rows.specs.Rows.{part}
+use Rattle.half_rows.specs.State.{state_length, up_to, size_of, turn_of, box_of, system_of, sums_place, sums_of, placed, due, with_turn, with_box, with_sums, with_system}
+use Rattle.half_rows_afresh.proofs.Parts.{length_part, part_set, length_placed, number_before, part_placed, part_beside}
 
 -- ---- n and the turn
+up_to_lem : (k n : ℕ) → 1 ≤ n → n ≤ k → up_to k (pos n) ≡ n
+unfolding up_to
+up_to_lem k n h l = rw (yes_le (pos 1) (pos n) (record { le = le→leb 1 n h }), yes_le (pos n) (pos k) (record { le = le→leb n k l }))
+
 size_is : (t : List ℤ) (n : ℕ) → length t ≡ state_length → get_or t 0 (pos 0) ≡ pos n → 1 ≤ n → n ≤ 32 → size_of t ≡ n
 unfolding size_of
 size_is t n l e h k = rw (eq-eqb (length t) state_length l, e) (up_to_lem 32 n h k)

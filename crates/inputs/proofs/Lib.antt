@@ -1,6 +1,5 @@
 pub mod Tests
 pub mod Place
-pub mod Parts
 pub mod Copy
 pub mod Early
 pub mod System

@@ -2,14 +2,14 @@
 use mathlib.Core.Path.{◌≡◌, refl, sym, ap, ◌∙◌}
 use mathlib.Core.Bool.{true}
 use mathlib.Core.Logic.{◌≢◌, ◌⊎◌, inl, inr}
-use mathlib.Core.List.{List, [], ◌∷◌, ◌++◌}
+use mathlib.Core.List.{List, ◌∷◌, ◌++◌}
 use Prim.Native.Nat.{ℕ, zero, suc, ◌+◌, ◌-◌, ◌*◌, ◌/◌, ◌%◌, ◌≤◌, ◌<◌}
 use native.Mathlib.Omega.{arith}
-use native.Mathlib.Nat.{zero-add, suc-add, mul-le-mul, div-add-mod, mod-lt}
+use native.Mathlib.Nat.{zero-add, mul-le-mul, div-add-mod, mod-lt}
 use native.Mathlib.Decide.{dec_lt, ℕ_discrete}
 use lib.IntN.{ℤ, pos}
-use lib.ListN.{get_or, set, length, replicate, length-set, length-replicate, get_or-replicate, get_or-eq_default, get_or-append}
-use lib.Seq.{get_or-set_same, get_or-set_other, get_or-append-add, set-append_left, set_out, set-get_or, ext_get_or}
+use lib.ListN.{get_or, set, length, length-set, get_or-eq_default, get_or-append}
+use lib.Seq.{get_or-set_same, get_or-set_other, get_or-append-add, ext_get_or}
 use Rattle.interval.specs.declared.Interval.{Interval}
 use Rattle.interval.specs.Interval.{zero as zeroInterval, ends, acceptable, lowest, highest, within, in_range}
 use Rattle.interval.proofs.Range.{same_ends}
@@ -44,16 +44,7 @@ sound_put t p v h l e = record { each = λ q. go q (ℕ_discrete q p) }
     go q (yes f) = rw (f, at_put_same t p v l) e
     go q (no f) = rw (at_put_other t p q v f) (h.each q)
 
--- what stands there already
-pub put_self : (t : List ℤ) (p : ℕ) → put t p (at t p) ≡ t
-unfolding put at
-put_self t p = rw (set-get_or t (2 * p) (pos 0)) (set-get_or t (2 * p + 1) (pos 0))
-
 -- past the end
-pub put_past : (t : List ℤ) (p : ℕ) (v : Interval) → length t ≤ 2 * p → put t p v ≡ t
-unfolding put
-put_past t p v h = rw (set_out t (2 * p) v.lo h) (set_out t (2 * p + 1) v.hi (omega arith))
-
 pub at_past : (t : List ℤ) (p : ℕ) → length t ≤ 2 * p → at t p ≡ zeroInterval
 unfolding at
 at_past t p h = same_ends _ _ (get_or-eq_default t (pos 0) h) (get_or-eq_default t (pos 0) (omega arith))
@@ -82,23 +73,6 @@ at_right s t a q h =
     let f : 2 * (a + q) + 1 ≡ length s + (2 * q + 1) = omega arith in
     same_ends _ _ (rw e (get_or-append-add s t (2 * q) (pos 0))) (rw f (get_or-append-add s t (2 * q + 1) (pos 0)))
 
-set_right : (s t : List ℤ) (i : ℕ) (a : ℤ) → set (s ++ t) (length s + i) a ≡ s ++ set t i a
-set_right [] t i a = ap (λ (k : ℕ). set t k a) (zero-add i)
-set_right (x ∷ s) t i a = ap (λ (k : ℕ). set (x ∷ (s ++ t)) k a) (suc-add (length s) i) ∙ ap (λ (r : List ℤ). x ∷ r) (set_right s t i a)
-
-pub put_left : (s t : List ℤ) (p : ℕ) (v : Interval) → 2 * p + 1 < length s → put (s ++ t) p v ≡ put s p v ++ t
-unfolding put
-put_left s t p v h =
-    rw (set-append_left s t (2 * p) v.lo (omega arith))
-    (set-append_left (set s (2 * p) v.lo) t (2 * p + 1) v.hi (rw (length-set s (2 * p) v.lo) h))
-
-pub put_right : (s t : List ℤ) (a q : ℕ) (v : Interval) → length s ≡ 2 * a → put (s ++ t) (a + q) v ≡ s ++ put t q v
-unfolding put
-put_right s t a q v h =
-    let e : 2 * (a + q) ≡ length s + 2 * q = omega arith in
-    let f : 2 * (a + q) + 1 ≡ length s + (2 * q + 1) = omega arith in
-    rw (f, e, set_right s t (2 * q) v.lo) (set_right s (set t (2 * q) v.lo) (2 * q + 1) v.hi)
-
 pub sound_append : (s t : List ℤ) (a : ℕ) → length s ≡ 2 * a → Sound s → Sound t → Sound (s ++ t)
 sound_append s t a l h k = record { each = λ p. go p (dec_lt p a) }
   where
@@ -107,13 +81,6 @@ sound_append s t a l h k = record { each = λ p. go p (dec_lt p a) }
     go p (no f) = let e : p ≡ a + (p - a) = omega (arith, f) in rw e (rw (at_right s t a (p - a) l) (k.each (p - a)))
 
 -- nothing but noughts
-pub nought_at : (count i : ℕ) → get_or (replicate count (pos 0)) i (pos 0) ≡ pos 0
-nought_at count i = go (dec_lt i count)
-  where
-    go : Dec (i < count) → get_or (replicate count (pos 0)) i (pos 0) ≡ pos 0
-    go (yes h) = get_or-replicate count i (pos 0) (pos 0) h
-    go (no h) = get_or-eq_default (replicate count (pos 0)) (pos 0) {n = i} (rw (length-replicate count (pos 0)) (omega (arith, h)))
-
 pub sound_noughts : (t : List ℤ) → ((i : ℕ) → get_or t i (pos 0) ≡ pos 0) → Sound t
 unfolding at
 sound_noughts t h = record { each = λ p. rw (h (2 * p), h (2 * p + 1)) zero_accepted }

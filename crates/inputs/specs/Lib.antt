@@ -1,5 +1,4 @@
 pub mod Place
-pub mod Parts
 pub mod Tests
 pub mod System
 pub mod Code

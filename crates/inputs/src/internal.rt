@@ -1,5 +1,4 @@
 pub mod copy;
-pub mod parts;
 
 ghost use Rattle.std.specs.Prelude.{◌≡◌, ◌+◌, ◌*◌, ◌≤◌, ◌<◌, length};
 ghost use Rattle.inputs.specs.Place.{at, put};

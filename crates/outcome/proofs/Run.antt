@@ -1,5 +1,4 @@
--- With which outcomes a run can be refused, from the parts that it is made of; what one that went to its end says of its parts; parts in
--- sequence.
+-- With which outcomes a run can be refused, from the parts that it is made of; what one that went to its end says of its parts.
 use mathlib.Core.Path.{◌≡◌, refl}
 use mathlib.Core.Bool.{Bool, true, false, cond}
 use Prim.Native.Nat.{ℕ}
@@ -53,15 +52,3 @@ pub joined : {A B : Type 0} (r : Run A) (f : A → Run B) (b : B) → and_then r
 unfolding and_then
 joined (refused o) f b e = never e
 joined (done a) f b e = record { mid = a; first = refl; rest = e }
-
--- ---- parts in sequence
-pub then_then : {A B C : Type 0} (r : Run A) (f : A → Run B) (g : B → Run C) → and_then (and_then r f) g ≡ and_then r (λ a. and_then (f a) g)
-unfolding and_then
-then_then (refused o) f g = refl
-then_then (done a) f g = refl
-
--- what goes on alike from where the first part got to
-pub then_alike : {A B : Type 0} (r : Run A) (f g : A → Run B) → ((a : A) → r ≡ done a → f a ≡ g a) → and_then r f ≡ and_then r g
-unfolding and_then
-then_alike (refused o) f g h = refl
-then_alike (done a) f g h = h a refl

@@ -1,8 +1,8 @@
--- Document 01, Outcomes: the table, row by row; then the rows that document 02 adds, in A2, A6, A7 and A8.
+-- Document 01, Outcomes: the table, row by row; then the rows that document 02 adds, in A2, A6 and A7.
 use Rattle.std.specs.Prelude.{ℕ}
 use Rattle.outcome.specs.declared.Outcome.{Outcome}
 use Rattle.outcome.specs.declared.Outcome.TheVariants.{Done, Spent, Size, Length, Allowed, Ends}
-use Rattle.outcome.specs.declared.Outcome.TheVariants.{ContainsZero, OutOfRange, Empty, Text, Sums, NotDue, NoComponent, OutOfMatrix, OutOfOrder, NoSlot, NothingStored}
+use Rattle.outcome.specs.declared.Outcome.TheVariants.{ContainsZero, OutOfRange, Empty, Text, Sums, NotDue, NoComponent, OutOfMatrix, OutOfOrder}
 
 -- what is returned, and the place returned
 pub record Row : Type 0 where
@@ -28,5 +28,3 @@ number_and_place NotDue = row 19 0
 number_and_place NoComponent = row 20 0
 number_and_place (OutOfMatrix r) = row 11 r
 number_and_place (OutOfOrder r) = row 12 r
-number_and_place NoSlot = row 13 0
-number_and_place (NothingStored slot) = row 14 slot

@@ -1,7 +1,7 @@
 ghost use Rattle.std.specs.Prelude.{◌≡◌};
 ghost use Rattle.outcome.specs.Table.{number_and_place};
 
-// How a call ends: document 01, Outcomes, with the numbers that document 02 adds: 10 in A2, 19 and 20 in A6, 11 and 12 in A7, 13 and 14 in A8. Each case carries the place that its row of the table names; number_and_place, in specs/, gives the numbers.
+// How a call ends: document 01, Outcomes, with the numbers that document 02 adds: 10 in A2, 19 and 20 in A6, 11 and 12 in A7. Each case carries the place that its row of the table names; number_and_place, in specs/, gives the numbers.
 // The count of sweeps stands beside an outcome, not in it.
 #[derive(Drop)]
 pub enum Outcome {
@@ -34,10 +34,6 @@ pub enum Outcome {
     OutOfMatrix(usize),
     // this record does not come after the one before it
     OutOfOrder(usize),
-    // the slot is not 1 or 2
-    NoSlot,
-    // there is no table, or this slot of it is empty
-    NothingStored(usize),
 }
 
 impl Outcome {
@@ -61,8 +57,6 @@ impl Outcome {
             Outcome::NoComponent => 20,
             Outcome::OutOfMatrix(_) => 11,
             Outcome::OutOfOrder(_) => 12,
-            Outcome::NoSlot => 13,
-            Outcome::NothingStored(_) => 14,
         }
     }
 
@@ -86,8 +80,6 @@ impl Outcome {
             Outcome::NoComponent => 0,
             Outcome::OutOfMatrix(record) => record,
             Outcome::OutOfOrder(record) => record,
-            Outcome::NoSlot => 0,
-            Outcome::NothingStored(slot) => slot,
         }
     }
 }

@@ -6,8 +6,8 @@ ghost use Rattle.rows.specs.Sum.{once};
 ghost use Rattle.outcome.specs.Run.{and_then};
 ghost use Rattle.forward.specs.Pivot.{lowest_row};
 ghost use Rattle.forward.specs.Formed.{formed_rows};
-ghost use Rattle.elimination.specs.Call.{copied, substituted, solved};
-ghost use Rattle.forward.specs.Code.{Working, Pivots};
+ghost use Rattle.elimination.specs.Call.{copied, solved};
+ghost use Rattle.forward.specs.Code.{Working};
 
 use crate::internal::back::back;
 use forward::internal::Ending;
@@ -15,19 +15,6 @@ use forward::internal::formed::formed_rows;
 use forward::internal::forward::forward;
 use inputs::internal::copy::{copy_in, copy_out};
 use outcome::Outcome;
-
-// Back-substitution in the working copy; the box is written at the end.
-pub fn substitute(n: usize, t: &mut [i64], bounds: &mut [i64]) -> Outcome
-    requires { Working n t.old × Pivots n t.old × (length bounds.old ≡ 2 * n) }
-    ensures { Ended (substituted once n t.old) result bounds.old bounds.new }
-{
-    let e = back(n, t);
-    if let Ending::Stopped(o) = e {
-        return o;
-    }
-    copy_out(bounds, t, 2 * (n * n));
-    Outcome::Done
-}
 
 // Eliminates in the working copy and writes the box at the end.
 fn finish(n: usize, t: &mut [i64], bounds: &mut [i64]) -> Outcome
@@ -39,7 +26,12 @@ fn finish(n: usize, t: &mut [i64], bounds: &mut [i64]) -> Outcome
     if let Ending::Stopped(o) = e {
         return o;
     }
-    substitute(n, t, bounds)
+    let e = back(n, t);
+    if let Ending::Stopped(o) = e {
+        return o;
+    }
+    copy_out(bounds, t, 2 * (n * n));
+    Outcome::Done
 }
 
 // The calculation over A and f.

@@ -41,7 +41,7 @@ fn entry(n: usize, k: usize, i: usize, j: usize, m: Interval, t: &mut [i64]) -> 
 }
 
 // f(i) − m·f(k)
-pub fn right_side(n: usize, k: usize, i: usize, m: Interval, t: &mut [i64]) -> bool
+fn right_side(n: usize, k: usize, i: usize, m: Interval, t: &mut [i64]) -> bool
     requires working { Working n t.old × (k < n) × (i < n) }
     requires m_value { acceptable m ≡ true }
     ensures { Placed (reduced t.old (rhs n i) m (rhs n k)) (rhs n i) t.old result t.new }

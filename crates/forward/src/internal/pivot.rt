@@ -22,7 +22,7 @@ fn choose(n: usize, k: usize, t: &[i64]) -> Chosen
 }
 
 // The intervals at p and q change places.
-pub fn exchange(t: &mut [i64], p: usize, q: usize)
+fn exchange(t: &mut [i64], p: usize, q: usize)
     requires { (2 * p + 1 < length t.old) × (2 * q + 1 < length t.old) }
     ensures { t.new ≡ exchanged p q t.old }
 {

@@ -1,9 +1,8 @@
 // Where the parts of a state stand, read and written.
 ghost use Rattle.std.specs.Prelude.{◌≡◌, ◌≤◌, length};
-ghost use Rattle.half_rows.specs.State.{state_length, size_of, turn_of, sums_place, due, with_box, with_sums};
+ghost use Rattle.half_rows.specs.State.{state_length, up_to, size_of, turn_of, sums_place, due, with_box, with_sums};
 
 use inputs::internal::copy::fill;
-use inputs::internal::parts::up_to;
 
 pub const LENGTH: usize = 2_434;
 
@@ -16,6 +15,20 @@ const LEFTS: usize = 130;
 const RIGHTS: usize = 258;
 
 pub const MATRIX: usize = 386;
+
+// The number if it is from 1 to k, or else 0.
+fn up_to(k: usize, z: i64) -> usize
+    requires { k ≤ 32 }
+    ensures { result ≡ up_to k z }
+{
+    let most = k as i64;
+    if 1 <= z {
+        if z <= most {
+            return z as usize;
+        }
+    }
+    0
+}
 
 // The size, or 0 where nothing is loaded.
 pub fn size(state: &[i64]) -> usize

@@ -5,8 +5,8 @@ use Rattle.forward.specs.Pivot.{lowest_row}
 use Rattle.forward.specs.Forward.{table, forward}
 use Rattle.elimination.specs.Call.{none_taken}
 use Rattle.forward.proofs.Kept.{forward_pivots}
-use Rattle.forward.proofs.Step.{reached_done, reached_stop, working_after}
-use Rattle.elimination.proofs.Call.{ended_forward, ended_substituted}
+use Rattle.forward.proofs.Step.{ran_done, ran_stop, reached_done, reached_stop, working_after}
+use Rattle.elimination.proofs.Call.{ended_forward, ended_back, ended_done}
 use Rattle.elimination.proofs.internal.solve.finish.Statement.{statement}
 use Rattle.elimination.proofs.internal.solve.finish.Tie as tie
 
@@ -38,21 +38,49 @@ returns c = ended_forward _ _ _ (reached_stop c.before.before.before.before.befo
 enum_told : tie.Need-enum-told
 enum_told c = search rules
 
-substitute-requires : tie.Need-substitute-requires
-substitute-requires c κs =
-    let w = c.before.before in
-    let f = forward-at w in
+back-requires : tie.Need-back-requires
+back-requires c κs =
+    let f = forward-at c.before in
     let s = start f in
-    (working_after s.pre.0 f.forward.kept.1.0 f.forward.ensures.sound, forward_pivots _ _ _ s.pre.0.room (went w), s.pre.1)
+    (working_after s.pre.0 f.forward.kept.1.0 f.forward.ensures.sound, forward_pivots _ _ _ s.pre.0.room (went c.before))
+
+enum-known-e-2 : tie.Need-enum-known-e-2
+enum-known-e-2 c = search rules
 
 same-length-2 : tie.Need-same-length-2
 same-length-2 c = search rules
 
+returns-2 : tie.Need-returns-2
+returns-2 c =
+    let b = c.before.before.before.before in
+    ended_back _ _ _ (went b.before.before) (ran_stop b.back.ensures c.before.e2.given.1)
+
+enum-told-2 : tie.Need-enum-told-2
+enum-told-2 c = search rules
+
+mul-copy-out : tie.Need-overflow-mul-copy-out
+mul-copy-out c = search rules
+
+mul-copy-out-2 : tie.Need-overflow-mul-copy-out-2
+mul-copy-out-2 c = search rules
+
+copy-out-requires : tie.Need-copy-out-requires
+copy-out-requires c κs = search rules
+
 same-length-3 : tie.Need-same-length-3
 same-length-3 c = search rules
 
-returns-2 : tie.Need-returns-2
-returns-2 c = ended_substituted _ _ _ (went c.before.before.before.before.before) c.before.before.substitute.ensures
+same-length-4 : tie.Need-same-length-4
+same-length-4 c = search rules
+
+returns-3 : tie.Need-returns-3
+returns-3 c =
+    let o = c.before in
+    let e = o.before.before.before in
+    let b = e.before.before.before in
+    let w = b.before.before in
+    let s = start (forward-at w) in
+    ended_done _ _ _ (went w) (ran_done b.back.ensures e.enum-told2.given.1) s.pre.1 o.copy-out.ensures
 
 pub finish_spec : {M : Type 1} → statement M
 finish_spec =
@@ -64,7 +92,14 @@ finish_spec =
     same_length
     returns
     enum_told
-    substitute-requires
+    back-requires
+    enum-known-e-2
     same-length-2
+    returns-2
+    enum-told-2
+    mul-copy-out
+    mul-copy-out-2
+    copy-out-requires
     same-length-3
-    returns-2)
+    same-length-4
+    returns-3)

@@ -176,9 +176,9 @@ loop2-again c =
       v.4 ∙ Forward.columns-go _ _ _ _ _ _ l.loop2-test.true e.entry.ensures (not-false _ c.if1.false),
     )
 
-right_side_requires :
+right-side-requires :
     tie.Need-right-side-requires invariant-loop2 decreases-loop2 invariant-loop decreases-loop invariant-pivots decreases-pivots
-right_side_requires c κs =
+right-side-requires c κs =
     let y = c.before.before.before in
     ((c.before.before.loop2.invariant.2, below (pivoted (in_step y)), row_below y), factor_good y)
 
@@ -320,7 +320,7 @@ forward_spec =
     add-j-2
     loop2-less
     loop2-again
-    right_side_requires
+    right-side-requires
     add-t33
     add-i-2
     loop-less

@@ -7,7 +7,7 @@ use lib.ListN.{set, length-set}
 use mir.Syntax.{w64}
 use mir.ValLaws.{to_z_pos}
 use Rattle.inputs.proofs.Tests.{square}
-use Rattle.inputs.specs.Parts.{placed}
+use Rattle.half_rows.specs.State.{placed}
 use Rattle.half_rows.proofs.internal.load.put_system.Statement.{statement}
 use Rattle.half_rows.proofs.internal.load.put_system.Tie as tie
 

@@ -9,15 +9,14 @@ use Rattle.interval.specs.Interval.{acceptable}
 use Rattle.inputs.proofs.Tests.{square}
 use Rattle.half_rows.specs.Code.{renewed_of}
 use Rattle.half_rows.proofs.Row.{spans}
-use Rattle.inputs.proofs.Parts.{length_part}
-use Rattle.half_rows.proofs.State.{sums_end}
+use Rattle.half_rows.proofs.State.{part_length, sums_end}
 use Rattle.half_rows.proofs.Ends.{renewal, renewal_is, narrow_stops, narrow_ends}
 use Rattle.half_rows.proofs.internal.operations.narrow_to.Statement.{statement}
 use Rattle.half_rows.proofs.internal.operations.narrow_to.Tie as tie
 
 -- the box is a part of the state, and the parts end within it
 box_length : (s : tie.Start) → length s.args.x.now ≡ 2 * s.args.n
-box_length s = ap length s.requires.0.3 ∙ length_part s.args.state.now 2 (2 * s.args.n) (omega (arith, s.requires.0.0, s.requires.0.2))
+box_length s = ap length s.requires.0.3 ∙ part_length s.args.state.now 2 (2 * s.args.n) (omega (arith, s.requires.0.0, s.requires.0.2))
 
 few : (s : tie.Start) → 386 + 2 * (s.args.n * s.args.n) ≤ 2434
 few s = omega (arith, square s.args.n s.requires.0.0)
@@ -72,7 +71,7 @@ renew-requires c κs =
         s.requires.0.0,
         s.requires.0.1,
         w.box,
-        rw a (length_part s.args.state.now 386 (2 * (n * n)) (omega (arith, few s, s.requires.0.2))),
+        rw a (part_length s.args.state.now 386 (2 * (n * n)) (omega (arith, few s, s.requires.0.2))),
         k.copy-out.auto.0 ∙ s.requires.0.4,
       ),
       (ap acceptable o.read.ensures ∙ s.requires.1.0, s.requires.1.1),

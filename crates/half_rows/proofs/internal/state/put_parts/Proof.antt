@@ -4,7 +4,7 @@ use Prim.Native.Nat.{ℕ}
 use native.Mathlib.Omega.{arith}
 use borrow.Author.Rules.{rules}
 use lib.IntN.{ℤ}
-use Rattle.inputs.specs.Parts.{placed}
+use Rattle.half_rows.specs.State.{placed}
 use Rattle.half_rows.proofs.State.{sums_end}
 use Rattle.half_rows.proofs.internal.state.put_parts.Statement.{statement}
 use Rattle.half_rows.proofs.internal.state.put_parts.Tie as tie

@@ -2,7 +2,7 @@ use mathlib.Core.Path.{ap, ◌∙◌}
 use borrow.Author.Rules.{rules}
 use mir.Syntax.{w64}
 use mir.ValLaws.{to_z-of_z}
-use Rattle.inputs.specs.Parts.{up_to}
+use Rattle.half_rows.specs.State.{up_to}
 use Rattle.half_rows.proofs.State.{size_wrong, size_is}
 use Rattle.half_rows.proofs.internal.state.size.Statement.{statement}
 use Rattle.half_rows.proofs.internal.state.size.Tie as tie

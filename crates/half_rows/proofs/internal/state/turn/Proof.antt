@@ -2,8 +2,7 @@ use mathlib.Core.Path.{ap, ◌∙◌}
 use borrow.Author.Rules.{rules}
 use mir.Syntax.{w64}
 use mir.ValLaws.{to_z-of_z}
-use Rattle.inputs.specs.Parts.{up_to}
-use Rattle.half_rows.specs.State.{turn_of}
+use Rattle.half_rows.specs.State.{up_to, turn_of}
 use Rattle.half_rows.proofs.internal.state.turn.Statement.{statement}
 use Rattle.half_rows.proofs.internal.state.turn.Tie as tie
 
