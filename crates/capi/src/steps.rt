@@ -9,7 +9,7 @@ use outcome::Outcome;
 
 // A step's answer for callers in C and Rust: document 01's number and place, and the interval's ends, which are 0 on a refusal.
 #[repr(C)]
-#[derive(Drop)]
+#[derive(Clone, Copy)]
 pub struct KifwalebStep {
     pub number: u64,
     pub place: u64,

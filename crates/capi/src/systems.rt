@@ -9,7 +9,7 @@ use outcome::Outcome;
 
 // A call's answer: document 01's number and place, and a count: of whole sweeps, of the bytes of a sheet, and 0 for an elimination and a start box.
 #[repr(C)]
-#[derive(Drop)]
+#[derive(Clone, Copy)]
 pub struct KifwalebOutcome {
     pub number: u64,
     pub place: u64,

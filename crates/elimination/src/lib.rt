@@ -1,3 +1,5 @@
+#![tactic(auto)]
+
 pub mod claims;
 pub mod internal;
 

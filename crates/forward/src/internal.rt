@@ -8,21 +8,21 @@ use interval::Interval;
 use outcome::Outcome;
 
 // How a part of the calculation ended.
-#[derive(Drop)]
+#[derive(Clone, Copy)]
 pub enum Ending {
     Finished,
     Stopped(Outcome),
 }
 
 // An interval with which the calculation can go on, or none.
-#[derive(Drop)]
+#[derive(Clone, Copy)]
 pub enum Usable {
     Yes(Interval),
     No,
 }
 
 // The row that a step takes, or none.
-#[derive(Drop)]
+#[derive(Clone, Copy)]
 pub enum Chosen {
     Row(usize),
     None,

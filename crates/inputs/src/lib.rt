@@ -1,9 +1,11 @@
+#![tactic(auto)]
+
 pub mod internal;
 
 use outcome::Outcome;
 
 // What a test before a calculation says.
-#[derive(Drop)]
+#[derive(Clone, Copy)]
 pub enum Test {
     Pass,
     Fail(Outcome),

@@ -1,3 +1,5 @@
+#![tactic(auto)]
+
 pub mod internal;
 
 ghost use Rattle.std.specs.Prelude.{◌≡◌, true};
@@ -6,14 +8,14 @@ ghost use Rattle.interval.specs.Answer.{answer_of, tested, ranged, divided, sum_
 ghost use Rattle.interval.specs.Code.{calculated};
 
 // Document 01, Bounds in units: a lower and an upper end, each a count of units of one millionth.
-#[derive(Drop)]
+#[derive(Clone, Copy)]
 pub struct Interval {
     pub lo: i64,
     pub hi: i64,
 }
 
 // What one arithmetic step answers: the interval, or its refusal. answer_of, in specs/, gives document 01's numbers.
-#[derive(Drop)]
+#[derive(Clone, Copy)]
 pub enum Step {
     Value(Interval),
     // the ends of operand 0 or 1 are out of sequence or out of the range
@@ -75,7 +77,7 @@ impl Interval {
     }
 }
 
-#[derive(Drop)]
+#[derive(Clone, Copy)]
 enum Operation {
     Sum,
     Difference,

@@ -1,3 +1,5 @@
+#![tactic(auto)]
+
 pub mod internal;
 
 ghost use Rattle.std.specs.Prelude.{◌≡◌};
@@ -6,7 +8,7 @@ ghost use Rattle.narrower.specs.Choice.{choice_number, chosen, Handed};
 use crate::internal::choose;
 
 // Which of two boxes is the narrower. These are no outcomes: their numbers are not in document 01's table.
-#[derive(Drop)]
+#[derive(Clone, Copy)]
 pub enum Choice {
     Neither,
     First,

@@ -1,9 +1,11 @@
+#![tactic(auto)]
+
 ghost use Rattle.std.specs.Prelude.{◌≡◌};
 ghost use Rattle.outcome.specs.Table.{number_and_place};
 
 // How a call ends: document 01, Outcomes, with the numbers that document 02 adds: 10 in A2, 19 and 20 in A6, 11 and 12 in A7. Each case carries the place that its row of the table names; number_and_place, in specs/, gives the numbers.
 // The count of sweeps stands beside an outcome, not in it.
-#[derive(Drop)]
+#[derive(Clone, Copy)]
 pub enum Outcome {
     // done, or settled
     Done,

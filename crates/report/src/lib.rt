@@ -14,7 +14,7 @@ use outcome::Outcome;
 use text::internal::lines::{Reading, read_text};
 
 // What is returned: the outcome, and how many bytes were written.
-#[derive(Drop)]
+#[derive(Clone, Copy)]
 pub struct Written {
     pub outcome: Outcome,
     pub count: usize,

@@ -1,3 +1,5 @@
+#![tactic(auto)]
+
 pub mod claims;
 pub mod internal;
 pub mod outside;
@@ -8,7 +10,7 @@ ghost use Rattle.search.specs.First.{first_from, within};
 use crate::internal::marks::marks;
 
 // What a search finds: a place, or none.
-#[derive(Drop)]
+#[derive(Clone, Copy)]
 pub enum Found {
     At(usize),
     Nothing,

@@ -1,3 +1,5 @@
+#![tactic(auto)]
+
 pub mod internal;
 
 ghost use Rattle.std.specs.Prelude.{◌≡◌};
@@ -9,7 +11,7 @@ use crate::internal::calls::swept;
 use outcome::Outcome;
 
 // What a sweep call of either kind returns: its outcome and the number of whole sweeps done.
-#[derive(Drop)]
+#[derive(Clone, Copy)]
 pub struct Swept {
     pub outcome: Outcome,
     pub count: usize,

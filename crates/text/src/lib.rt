@@ -13,7 +13,7 @@ use inputs::internal::lengths;
 use outcome::Outcome;
 
 // What reading a text returns: its outcome, and the number of vats, which is 0 with a refusal.
-#[derive(Drop)]
+#[derive(Clone, Copy)]
 pub struct Numbers {
     pub outcome: Outcome,
     pub size: usize,

@@ -13,7 +13,7 @@ use sweep::Swept;
 
 // A transfer: a share of what passes through the giving component goes on into the receiving one. Document 02, A7: receiving vat, giving vat, lower and upper share.
 #[repr(C)]
-#[derive(Drop)]
+#[derive(Clone, Copy)]
 pub struct Transfer {
     pub receiver: i64,
     pub giver: i64,

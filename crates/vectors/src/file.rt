@@ -2,21 +2,21 @@
 ghost use Rattle.std.specs.Prelude.{◌≤◌, length};
 
 // A number without a sign, and the place after it.
-#[derive(Drop)]
+#[derive(Clone, Copy)]
 pub struct Natural {
     pub value: u64,
     pub at: usize,
 }
 
 // A number, and the place after it.
-#[derive(Drop)]
+#[derive(Clone, Copy)]
 pub struct Number {
     pub value: i64,
     pub at: usize,
 }
 
 // How a line begins: the number of its case, if it is one, and a letter that says what follows.
-#[derive(Drop)]
+#[derive(Clone, Copy)]
 pub struct Head {
     pub case: u64,
     pub letter: u8,

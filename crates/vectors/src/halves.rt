@@ -15,7 +15,7 @@ pub(crate) fn is_half(letter: u8) -> bool {
 }
 
 // A vat, the ends to narrow it by, and the place after them.
-#[derive(Drop)]
+#[derive(Clone, Copy)]
 struct Narrowing {
     vat: usize,
     lo: i64,

@@ -3,7 +3,7 @@ use crate::lines;
 use interval::{Interval, Step};
 
 // An interval, and the place after it.
-#[derive(Drop)]
+#[derive(Clone, Copy)]
 struct Operand {
     value: Interval,
     at: usize,

@@ -12,7 +12,7 @@ use kept_sums::internal::write_sum;
 use rows::internal::word::all_above;
 
 // How a half pass ended.
-#[derive(Drop)]
+#[derive(Clone, Copy)]
 pub enum Half {
     NoState,
     Empty(usize),

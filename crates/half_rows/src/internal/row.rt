@@ -21,7 +21,7 @@ use wide_sum::WideInterval;
 use wide_sum::internal::sum::{joined_both, nought};
 
 // A row's new component, which may be empty, and the sum that was worked out; or numbers that no operation left.
-#[derive(Drop)]
+#[derive(Clone, Copy)]
 pub enum RowStep {
     NoState,
     Next(Interval, WideInterval),

@@ -16,7 +16,7 @@ use wide_sum::WideInterval;
 use wide_sum::internal::sum::raised_both;
 
 // The sum, or a share that is no interval.
-#[derive(Drop)]
+#[derive(Clone, Copy)]
 pub enum Tested {
     Ill,
     Sum(WideInterval),

@@ -15,14 +15,14 @@ use interval::internal::within;
 use outcome::Outcome;
 
 // The reach, or how the calculation stopped.
-#[derive(Drop)]
+#[derive(Clone, Copy)]
 pub enum Reached {
     At(i64),
     Stopped(Outcome),
 }
 
 // Of a row: its magnitudes summed, and its products with those of the right side.
-#[derive(Drop)]
+#[derive(Clone, Copy)]
 struct RowTotals {
     sum: i64,
     dividend: i64,

@@ -10,7 +10,7 @@ use interval::internal::{intersection, is_empty, sum};
 use rows::internal::row_sum;
 
 // How a pass over the box ended: at an empty intersection, or whole, and whether it changed an end.
-#[derive(Drop)]
+#[derive(Clone, Copy)]
 pub enum OnePass {
     Empty(usize),
     Whole(bool),

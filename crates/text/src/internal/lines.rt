@@ -8,27 +8,27 @@ use crate::internal::values::read_values;
 use search::{Found, first};
 
 // Line 1: how many names it has, and where its byte 10 stands.
-#[derive(Drop)]
+#[derive(Clone, Copy)]
 pub struct Heading {
     pub count: usize,
     pub stop: usize,
 }
 
-#[derive(Drop)]
+#[derive(Clone, Copy)]
 pub enum Head {
     Named(Heading),
     Faulty(usize),
 }
 
 // The lines after line 1: their numbers are read, or one is faulty.
-#[derive(Drop)]
+#[derive(Clone, Copy)]
 pub enum Rows {
     Whole,
     Faulty(usize),
 }
 
 // A whole text: a balance, or the first faulty line.
-#[derive(Drop)]
+#[derive(Clone, Copy)]
 pub enum Reading {
     Balance(Heading),
     Faulty(usize),

@@ -6,7 +6,7 @@ use crate::internal::packed::{is_entered, pack};
 use search::{Found, first};
 
 // What a line is as a line of names: how many there are, or none.
-#[derive(Drop)]
+#[derive(Clone, Copy)]
 pub enum Names {
     Count(usize),
     Faulty,

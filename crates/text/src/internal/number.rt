@@ -3,14 +3,14 @@ ghost use Rattle.text.specs.Number.{is_digit, digits, magnitude, number, below};
 ghost use Rattle.text.specs.Code.{magnitude_of, short, number_of};
 
 // What bytes are as digits: their number, or none.
-#[derive(Drop)]
+#[derive(Clone, Copy)]
 pub enum Magnitude {
     Digits(u64),
     Other,
 }
 
 // What bytes are as a number of the text.
-#[derive(Drop)]
+#[derive(Clone, Copy)]
 pub enum Number {
     Units(i64),
     Malformed,

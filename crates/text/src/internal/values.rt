@@ -10,7 +10,7 @@ use interval::Interval;
 use search::{Found, first};
 
 // What a field is as a value of the text.
-#[derive(Drop)]
+#[derive(Clone, Copy)]
 pub enum Value {
     Bounds(Interval),
     Other,

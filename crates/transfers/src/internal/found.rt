@@ -13,7 +13,7 @@ use interval::internal::in_range;
 use outcome::Outcome;
 
 // What a row ends with: the place after its last record, which is past the list if one of them fails a test; the columns that it has passed; a hull of all shares so far.
-#[derive(Drop)]
+#[derive(Clone, Copy)]
 pub struct Row {
     pub end: usize,
     pub columns: usize,
@@ -21,7 +21,7 @@ pub struct Row {
 }
 
 // Whether a list stands in rows, and a hull of its shares.
-#[derive(Drop)]
+#[derive(Clone, Copy)]
 pub struct Found {
     pub whole: bool,
     pub hull: Interval,
@@ -155,7 +155,7 @@ fn find_rows(n: usize, rs: &[[i64; 4]], ends: &mut [usize]) -> Found
 }
 
 // What the tests of the records say: the list stands in rows, with this hull of its shares; or the outcome of the first test that fails.
-#[derive(Drop)]
+#[derive(Clone, Copy)]
 pub enum Tried {
     Rows(Interval),
     Fail(Outcome),

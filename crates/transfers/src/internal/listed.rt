@@ -21,7 +21,7 @@ use wide_sum::WideInterval;
 use wide_sum::internal::sum::{added_both, nought, raised_both};
 
 // What is known of rows and a box: whether the sums fit one word, and whether no share and no component is below 0.
-#[derive(Drop)]
+#[derive(Clone, Copy)]
 pub struct Known {
     pub short: bool,
     pub above: bool,

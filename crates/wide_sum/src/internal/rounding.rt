@@ -16,7 +16,7 @@ const SCALES: i64 = 18_446_744_073_709;
 const LEFT: i64 = 551_616;
 
 // A number as whole scales and a part.
-#[derive(Drop)]
+#[derive(Clone, Copy)]
 pub struct Parts {
     pub whole: i64,
     pub part: i64,

@@ -1,0 +1,125 @@
+use mathlib.Core.Path.{◌≡◌, refl, ap, ap₂, ◌∙◌}
+use Prim.Native.Nat.{ℕ, ◌-◌, ◌*◌, ◌≤◌, ◌<◌}
+use native.Mathlib.Omega.{arith}
+use lib.IntN.{ℤ, ◌*ℤ◌}
+use lib.Signed.{le_z_yes}
+use mir.Syntax.{w64}
+use mir.Val.{to_z, of_z}
+use mir.ValLaws.{to_z-of_z}
+use Rattle.integer.specs.Rounding.{ceil_div}
+use Rattle.integer.specs.Total.{total}
+use Rattle.integer.proofs.Order.{trans}
+use Rattle.integer.proofs.Machine.{plain}
+use Rattle.integer.proofs.Summing.{Term, add_safe, add_is, sum_read}
+use Rattle.interval.specs.Interval.{scale}
+use Rattle.inputs.specs.System.{System, system}
+use Rattle.inputs.proofs.Place.{cell_before, row_small}
+use Rattle.start_box.specs.Sums.{magnitude, row_sum}
+use Rattle.start_box.specs.Reach.{coefficients, constants, dividend}
+use Rattle.start_box.proofs.Reach.{coefficient_term, product_term, product_fits, rounded_product}
+use Rattle.start_box.proofs.internal.reach.row_totals.Goals as goal
+
+-- row i, and what is made of it
+abbrev products : System → (i j : ℕ) → ℤ
+products s i j = ceil_div (coefficients s i j *ℤ constants s j) scale
+
+pub overflow_mul-p : goal.overflow_mul-p
+overflow_mul-p c = omega (arith, row_small _ _ c.requires.0.matrix.few c.requires.1)
+
+pub loop-j-init : goal.loop-j-init
+unfolding total
+loop-j-init c = (omega arith, refl, refl)
+
+pub overflow_add-p : goal.overflow_add-p
+overflow_add-p c = omega (arith, row_small _ _ c.requires.0.matrix.few c.requires.1, c.requires.0.matrix.few)
+
+pub read-v-requires : goal.read-v-requires
+read-v-requires c = omega (arith, cell_before _ _ _ c.requires.1 c.loop-j-test.true, c.requires.0.matrix.long)
+
+pub read-w-requires : goal.read-w-requires
+read-w-requires c = omega (arith, c.requires.0.right.long, c.loop-j-test.true)
+
+pub magnitude-a-requires : goal.magnitude-a-requires
+magnitude-a-requires c = rw c.read-v.ensures (c.requires.0.matrix.sound.each _)
+
+pub magnitude-b-requires : goal.magnitude-b-requires
+magnitude-b-requires c = rw c.read-w.ensures (c.requires.0.right.sound.each _)
+
+-- this turn's entry of the row, and its product
+abbrev lent : goal.After-magnitude-b → System
+lent s = system s.args.n s.args.m.now s.args.r.now
+
+-- this turn's entry of the row, and its product
+abbrev lent_2 : goal.After-scaled_up-z → System
+lent_2 s = system s.args.n s.args.m.now s.args.r.now
+
+entry : (c : goal.After-magnitude-b) → c.magnitude-a.result ≡ coefficients (lent c) c.args.i c.loop-j.j
+entry c = c.magnitude-a.ensures ∙ ap magnitude c.read-v.ensures
+
+entry_2 : (c : goal.After-scaled_up-z) → c.magnitude-a.result ≡ coefficients (lent_2 c) c.args.i c.loop-j.j
+entry_2 c = c.magnitude-a.ensures ∙ ap magnitude c.read-v.ensures
+
+is : (c : goal.After-magnitude-b) → to_z w64 (of_z w64 c.magnitude-a.result) *ℤ to_z w64 (of_z w64 c.magnitude-b.result) ≡ coefficients (lent c) c.args.i c.loop-j.j *ℤ constants (lent c) c.loop-j.j
+is c = ap₂ ◌*ℤ◌ (plain _ c.magnitude-a.type_inv ∙ entry c) (plain _ c.magnitude-b.type_inv ∙ c.magnitude-b.ensures ∙ ap magnitude c.read-w.ensures)
+
+is_2 : (c : goal.After-scaled_up-z) → to_z w64 (of_z w64 c.magnitude-a.result) *ℤ to_z w64 (of_z w64 c.magnitude-b.result) ≡ coefficients (lent_2 c) c.args.i c.loop-j.j *ℤ constants (lent_2 c) c.loop-j.j
+is_2 c = ap₂ ◌*ℤ◌ (plain _ c.magnitude-a.type_inv ∙ entry_2 c) (plain _ c.magnitude-b.type_inv ∙ c.magnitude-b.ensures ∙ ap magnitude c.read-w.ensures)
+
+pub overflow_mul-a : goal.overflow_mul-a
+overflow_mul-a c = rw (is c) (product_fits (product_term c.requires.0 c.args.i c.loop-j.j))
+
+pub scaled_up-z-requires : goal.scaled_up-z-requires
+scaled_up-z-requires c =
+    let t = product_term c.requires.0 c.args.i c.loop-j.j in
+    rw (is c, to_z-of_z w64 _ (product_fits t)) record { negsuc_bound = trans (le_z_yes tt) t.above; p_bound = t.at_most }
+
+rounded : (c : goal.After-scaled_up-z) → c.scaled_up-z.result ≡ products (lent_2 c) c.args.i c.loop-j.j
+rounded c =
+    c.scaled_up-z.ensures ∙ ap (λ z. ceil_div z scale) (rw (is_2 c) (to_z-of_z w64 _ (product_fits (product_term c.requires.0 c.args.i c.loop-j.j))))
+
+-- ---- the two sums
+module _ (s : goal.Start) where
+  abbrev n : ℕ
+  n = s.args.n
+
+  entries : (j : ℕ) → j < n → Term 2000000000 (coefficients (lent s) s.args.i j)
+  entries j h = coefficient_term s.requires.0 s.args.i j
+
+  few_entries : 2000000000 * n ≤ 1000000000000000000
+  few_entries = omega (arith, s.requires.0.matrix.few)
+
+  all_products : (j : ℕ) → j < n → Term 4000000000000 (products (lent s) s.args.i j)
+  all_products j h = rounded_product s.requires.0 s.args.i j
+
+  few_products : 4000000000000 * n ≤ 1000000000000000000
+  few_products = omega (arith, s.requires.0.matrix.few)
+
+pub overflow_add-sum : goal.overflow_add-sum
+overflow_add-sum c =
+    add_safe _ 2000000000 c.args.n (entries c) (few_entries c) c.loop-j.j c.loop-j-test.true c.loop-j.inv.1 (entry_2 c)
+
+pub overflow_add-dividend : goal.overflow_add-dividend
+overflow_add-dividend c =
+    add_safe _ 4000000000000 c.args.n (all_products c) (few_products c) c.loop-j.j c.loop-j-test.true c.loop-j.inv.2 (rounded c)
+
+pub overflow_step-j : goal.overflow_step-j
+overflow_step-j c = omega arith
+
+pub loop-j-smaller : goal.loop-j-smaller
+loop-j-smaller c = omega arith
+
+pub loop-j-preserved : goal.loop-j-preserved
+loop-j-preserved c =
+    let t = c.loop-j-test.true in (
+      omega arith,
+      add_is _ 2000000000 c.args.n (entries c) (few_entries c) c.loop-j.j t c.loop-j.inv.1 (entry_2 c),
+      add_is _ 4000000000000 c.args.n (all_products c) (few_products c) c.loop-j.j t c.loop-j.inv.2 (rounded c),
+    )
+
+pub returns : goal.returns
+unfolding row_sum dividend
+returns c =
+    record {
+      sum = sum_read _ 2000000000 c.args.n (entries c) (few_entries c) c.loop-j.invariant.1 (omega arith);
+      dividend = sum_read _ 4000000000000 c.args.n (all_products c) (few_products c) c.loop-j.invariant.2 (omega arith);
+    }

@@ -1,0 +1,10 @@
+use mathlib.Core.Path.{◌∙◌}
+use native.Mathlib.Omega.{arith}
+use Rattle.sweep.proofs.Log.{sweep_called}
+use Rattle.sweep.proofs.sweep.Goals as goal
+
+pub swept-requires : goal.swept-requires
+swept-requires c = omega arith
+
+pub returns : goal.returns
+returns c = c.swept.ensures ∙ sweep_called _ _ _
