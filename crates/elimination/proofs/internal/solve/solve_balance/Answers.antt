@@ -15,10 +15,10 @@ use Rattle.elimination.proofs.Call.{copied_fits, copied_working}
 use Rattle.elimination.proofs.internal.solve.solve_balance.Goals as goal
 
 -- the tests have passed
-is_ready : (s : goal.After-t-1) → Ready (system s.args.n s.args.b-matrix.now s.args.b.now) (length s.args.bounds.now)
+is_ready : (s : goal.After-t-1) → Ready (system s.args.n s.args.b_matrix.now s.args.b.now) (length s.args.bounds.now)
 is_ready s = ready _ _ s.requires
 
-is_ready_2 : (s : goal.After-solve_formed-arg-1) → Ready (system s.args.n s.args.b-matrix.now s.args.b.now) (length s.args.bounds.now)
+is_ready_2 : (s : goal.After-solve_formed-arg-1) → Ready (system s.args.n s.args.b_matrix.now s.args.b.now) (length s.args.bounds.now)
 is_ready_2 s = ready _ _ s.requires
 
 working : (c : goal.After-solve_formed-arg-1) → Working c.args.n c.copy_in.new.t

@@ -170,22 +170,22 @@ fits_3 : (c : goal.In_default-r) → Fitting (lent_7 c) (length c.args.bounds.no
 fits_3 c = fitting _ _ (first_6 c) (long_right_6 c)
 
 -- ---- test 4 passed, and test 3 in the matrix and in the right side
-allowed_right : (c : goal.In-Fail-m) → allowance (start c).args.allowed ≡ Pass
+allowed_right : (c : goal.In-Fail-m) → allowance c.args.allowed ≡ Pass
 allowed_right c = sym c.budget-k.ensures ∙ c.in_default-k.is
 
-allowed_right_2 : (c : goal.In-Fail-r) → allowance (start c).args.allowed ≡ Pass
+allowed_right_2 : (c : goal.In-Fail-r) → allowance c.args.allowed ≡ Pass
 allowed_right_2 c = sym c.budget-k.ensures ∙ c.in_default-k.is
 
-allowed_right_3 : (c : goal.After-intervals) → allowance (start c).args.allowed ≡ Pass
+allowed_right_3 : (c : goal.After-intervals) → allowance c.args.allowed ≡ Pass
 allowed_right_3 c = sym c.budget-k.ensures ∙ c.in_default-k.is
 
-matrix_right : (c : goal.In-Fail-r) → let a = (start c).args in proper a.matrix.now (a.n * a.n) 0 0 ≡ Pass
+matrix_right : (c : goal.In-Fail-r) → let a = c.args in proper a.matrix.now (a.n * a.n) 0 0 ≡ Pass
 matrix_right c = sym c.intervals-m.ensures ∙ c.in_default-m.is
 
-matrix_right_2 : (c : goal.After-intervals) → let a = (start c).args in proper a.matrix.now (a.n * a.n) 0 0 ≡ Pass
+matrix_right_2 : (c : goal.After-intervals) → let a = c.args in proper a.matrix.now (a.n * a.n) 0 0 ≡ Pass
 matrix_right_2 c = sym c.intervals-m.ensures ∙ c.in_default-m.is
 
-right_right : (c : goal.After-intervals) → let a = (start (lengths-of c).before.before).args in proper a.right.now a.n 0 (a.n * a.n) ≡ Pass
+right_right : (c : goal.After-intervals) → let a = (start (lengths-of (c)).before.before).args in proper a.right.now a.n 0 (a.n * a.n) ≡ Pass
 right_right c = sym c.intervals-r.ensures ∙ c.in_default-r.is
 
 pub returns-in-Fail : goal.returns-in-Fail
@@ -222,29 +222,27 @@ returns-in-Fail-m c =
     tests_matrix _ _ _ (first_3 c) (long_right_3 c) (allowed_right c) (sym c.intervals-m.ensures ∙ c.in-Fail-m.is)
 
 pub overflow_mul-n-2 : goal.overflow_mul-n-2
-overflow_mul-n-2 c = omega (arith, square_few_2 c)
+overflow_mul-n-2 c = omega (arith, square_few_2 (c))
 
 pub intervals-r-requires : goal.intervals-r-requires
 intervals-r-requires c =
-    let l = lengths-of c in
-    (omega (arith, (fits_2 l).right), omega (arith, square_few_2 l, (fits_2 l).few))
+    (omega (arith, (fits_2 c).right), omega (arith, square_few_2 c, (fits_2 c).few))
 
 pub returns-in-Fail-r : goal.returns-in-Fail-r
 returns-in-Fail-r c =
     tests_right _ _ _ (first_5 c) (long_right_5 c) (allowed_right_2 c) (matrix_right c) (sym c.intervals-r.ensures ∙ c.in-Fail-r.is)
 
 pub overflow_mul-n-3 : goal.overflow_mul-n-3
-overflow_mul-n-3 c = omega (arith, square_few_3 (lengths-of c))
+overflow_mul-n-3 c = omega (arith, square_few_3 (lengths-of (c)))
 
 pub overflow_add-n : goal.overflow_add-n
-overflow_add-n c = let l = lengths-of c in omega (arith, square_few_3 l, (fits_3 l).few)
+overflow_add-n c = let l = lengths-of (c) in omega (arith, square_few_3 l, (fits_3 l).few)
 
 pub intervals-requires : goal.intervals-requires
 intervals-requires c =
-    let l = lengths-of c in
+    let l = lengths-of (c) in
     (omega (arith, (fits_3 l).box), omega (arith, square_few_3 l, (fits_3 l).few))
 
 pub returns : goal.returns
 returns c =
-    let b = budget-of c in
-    c.intervals.ensures ∙ tests_box _ _ _ (first_7 b) (long_right_7 b) (allowed_right_3 b) (matrix_right_2 c) (right_right c)
+    c.intervals.ensures ∙ tests_box _ _ _ (first_7 c) (long_right_7 c) (allowed_right_3 c) (matrix_right_2 c) (right_right c)
