@@ -185,7 +185,7 @@ matrix_right c = sym c.intervals-m.ensures ∙ c.in_default-m.is
 matrix_right_2 : (c : goal.After-intervals) → let a = c.args in proper a.matrix.now (a.n * a.n) 0 0 ≡ Pass
 matrix_right_2 c = sym c.intervals-m.ensures ∙ c.in_default-m.is
 
-right_right : (c : goal.After-intervals) → let a = (start (lengths-of (c)).before.before).args in proper a.right.now a.n 0 (a.n * a.n) ≡ Pass
+right_right : (c : goal.After-intervals) → let a = c.args in proper a.right.now a.n 0 (a.n * a.n) ≡ Pass
 right_right c = sym c.intervals-r.ensures ∙ c.in_default-r.is
 
 pub returns-in-Fail : goal.returns-in-Fail
@@ -222,7 +222,7 @@ returns-in-Fail-m c =
     tests_matrix _ _ _ (first_3 c) (long_right_3 c) (allowed_right c) (sym c.intervals-m.ensures ∙ c.in-Fail-m.is)
 
 pub overflow_mul-n-2 : goal.overflow_mul-n-2
-overflow_mul-n-2 c = omega (arith, square_few_2 (c))
+overflow_mul-n-2 c = omega (arith, square_few_2 c)
 
 pub intervals-r-requires : goal.intervals-r-requires
 intervals-r-requires c =
@@ -233,15 +233,14 @@ returns-in-Fail-r c =
     tests_right _ _ _ (first_5 c) (long_right_5 c) (allowed_right_2 c) (matrix_right c) (sym c.intervals-r.ensures ∙ c.in-Fail-r.is)
 
 pub overflow_mul-n-3 : goal.overflow_mul-n-3
-overflow_mul-n-3 c = omega (arith, square_few_3 (lengths-of (c)))
+overflow_mul-n-3 c = omega (arith, square_few_3 c)
 
 pub overflow_add-n : goal.overflow_add-n
-overflow_add-n c = let l = lengths-of (c) in omega (arith, square_few_3 l, (fits_3 l).few)
+overflow_add-n c = omega (arith, square_few_3 c, (fits_3 c).few)
 
 pub intervals-requires : goal.intervals-requires
 intervals-requires c =
-    let l = lengths-of (c) in
-    (omega (arith, (fits_3 l).box), omega (arith, square_few_3 l, (fits_3 l).few))
+    (omega (arith, (fits_3 c).box), omega (arith, square_few_3 c, (fits_3 c).few))
 
 pub returns : goal.returns
 returns c =
