@@ -1,3 +1,4 @@
+#![tactic(auto)]
 // A pass there and back in halves: a state that the caller lends keeps the box, and of every row the sums left and right of the diagonal, so that no half pass works them out twice.
 pub mod internal;
 

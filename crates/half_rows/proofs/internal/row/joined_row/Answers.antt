@@ -1,0 +1,21 @@
+use mathlib.Core.Path.{ap, ap₂, ◌∙◌}
+use native.Mathlib.Omega.{arith}
+use Rattle.interval.specs.Interval.{exact_sum, rounded, scale, intersection}
+use Rattle.wide_sum.specs.Wide.{held_both}
+use Rattle.wide_sum.proofs.Near.{near_both_more}
+use Rattle.half_rows.proofs.Fits.{component_fits}
+use Rattle.half_rows.proofs.internal.row.joined_row.Goals as goal
+
+pub joined_both-requires : goal.joined_both-requires
+joined_both-requires c = (near_both_more (omega arith) c.requires.i_value.1, near_both_more (omega arith) c.read_sum-k.ensures.1)
+
+pub sum-requires : goal.sum-requires
+sum-requires c =
+    component_fits c.read-b.ensures (c.requires.i_in_bounds.2.each _) c.rounded_any-t.ensures.1 c.rounded_any-t.ensures.2
+
+pub returns : goal.returns
+returns c =
+    c.intersection.ensures
+    ∙ ap₂ intersection
+    (c.sum.ensures ∙ ap₂ exact_sum c.read-b.ensures (c.rounded_any-t.ensures.0 ∙ ap (rounded scale) (c.joined_both.ensures.is ∙ ap (exact_sum (held_both c.args.known)) c.read_sum-k.ensures.0)))
+    c.read-old.ensures
