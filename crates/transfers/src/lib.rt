@@ -1,3 +1,5 @@
+#![tactic(auto)]
+
 pub mod internal;
 
 ghost use Rattle.std.specs.Prelude.{◌≡◌};

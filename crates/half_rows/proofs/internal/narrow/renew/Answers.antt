@@ -26,8 +26,8 @@ below_2 t = omega (arith, t.loop-i-test.true, t.requires.n_bound.2)
 
 pub renew_row-requires : goal.renew_row-requires
 renew_row-requires c =
-    let p = (c.requires.n_bound, c.requires.value) in
-    record { n_bound = (p.0.0, p.0.1, below c, p.0.3, c.loop-i.invariant.0 ∙ p.0.4); value = p.1 }
+    let p = c.requires.n_bound in
+    record { n_bound = (p.0, p.1, below c, p.3, c.loop-i.invariant.0 ∙ p.4); value = c.requires.value }
 
 -- the sums stay as many
 as_long : (u : goal.Then-not-renew_row) → length u.renew_row.new.sums ≡ length u.args.sums.now

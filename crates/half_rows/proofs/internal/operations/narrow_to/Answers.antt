@@ -43,6 +43,9 @@ overflow_mul-n-2 c = omega (arith, few c)
 pub overflow_add-n : goal.overflow_add-n
 overflow_add-n c = omega (arith, few c)
 
+pub slice_bounds-renew-end : goal.slice_bounds-renew-end
+slice_bounds-renew-end c = omega (arith, few c, c.requires.n_bound.2)
+
 pub renew-requires : goal.renew-requires
 renew-requires c =
     let n = c.args.n in

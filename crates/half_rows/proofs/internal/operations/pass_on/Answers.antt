@@ -28,11 +28,17 @@ overflow_mul-n-2 c = omega (arith, few c)
 pub overflow_add-n : goal.overflow_add-n
 overflow_add-n c = omega (arith, few c)
 
+pub slice_bounds-tested_pass-end : goal.slice_bounds-tested_pass-end
+slice_bounds-tested_pass-end c = omega (arith, few c, c.requires.1)
+
 pub overflow_add-kept : goal.overflow_add-kept
 overflow_add-kept c = omega (arith, kept c)
 
 pub offset_bounds-state-kept : goal.offset_bounds-state-kept
 offset_bounds-state-kept c = omega (arith, kept c)
+
+pub slice_bounds-tested_pass-end-3 : goal.slice_bounds-tested_pass-end-3
+slice_bounds-tested_pass-end-3 c = omega (arith, kept c, c.requires.1)
 
 pub returns : goal.returns
 returns c =

@@ -42,6 +42,9 @@ overflow_mul-e c = omega (arith, ends c, few c)
 pub offset_bounds-m-p : goal.offset_bounds-m-p
 offset_bounds-m-p c = omega (arith, ends c, few c)
 
+pub slice_bounds-on_half_row-end : goal.slice_bounds-on_half_row-end
+slice_bounds-on_half_row-end c = omega (arith, ends c, c.requires.shaped.2)
+
 pub on_half_row-requires : goal.on_half_row-requires
 on_half_row-requires c =
     record { shaped = (c.requires.shaped.0, c.requires.shaped.1); h_len = (half_length _ _ _ (omega (arith, ends_2 c, c.requires.shaped.2)) ∙ ap (λ (d : ℕ). 2 * (d + 1)) c.beside-d.ensures, c.requires.none_below) }

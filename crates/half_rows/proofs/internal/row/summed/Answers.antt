@@ -21,6 +21,9 @@ placed_2 c = spans c.args.back c.args.n c.args.i c.begin-from.ensures refl refl 
 pub overflow_sub-a : goal.overflow_sub-a
 overflow_sub-a c = (placed c).diagonal
 
+pub slice_bounds-next_single-end : goal.slice_bounds-next_single-end
+slice_bounds-next_single-end c = omega (arith, (placed c).diagonal_in, c.requires.h_len.0)
+
 pub next_single-requires : goal.next_single-requires
 next_single-requires c =
     let p = c.requires.shaped.0 in record {
