@@ -32,11 +32,10 @@ pub fn gather(ts: &[Transfer], n: usize, rs: &mut [[i64; 4]])
     requires { (n ≤ length ts.now) × (n ≤ length rs.old) }
     ensures { rs.new ≡ records_of (take n ts.now) ++ drop n rs.old }
 {
-    let mut out = rs;
     let mut k: usize = 0;
     while k < n {
         let t = record_at(ts, k);
-        out = put_record(out, k, t);
+        rs[k] = [t.receiver, t.giver, t.lo, t.hi];
         k += 1;
     }
 }

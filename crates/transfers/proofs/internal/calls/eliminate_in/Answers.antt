@@ -111,10 +111,10 @@ returns-in-Fail-r c =
     list_right _ _ c.requires.0 (judged c) (sym (right c) ∙ c.in-Fail-r.is)
 
 pub overflow_mul-n : goal.overflow_mul-n
-overflow_mul-n c = record { fits_3 = omega (arith, few c) }
+overflow_mul-n c = record { fits = omega (arith, few c) }
 
 pub overflow_mul-n-2 : goal.overflow_mul-n-2
-overflow_mul-n-2 c = record { fits_3 = omega (arith, few c) }
+overflow_mul-n-2 c = record { fits = omega (arith, few c) }
 
 pub fill-requires : goal.fill-requires
 fill-requires c =

@@ -94,7 +94,7 @@ righted_3 : (c : goal.After-bounds-1) → let s = lent_7 c in proper s.right s.s
 righted_3 c = sym (right_4 c) ∙ c.in_default.is
 
 pub overflow_add-rs : goal.overflow_add-rs
-overflow_add-rs c = let f = fits_2 c in record { fits_2 = omega (arith, f.few, rw (length_transfers _) at f.short) }
+overflow_add-rs c = let f = fits_2 c in record { fits = omega (arith, f.few, rw (length_transfers _) at f.short) }
 
 pub intervals-x-requires : goal.intervals-x-requires
 intervals-x-requires c =
@@ -142,7 +142,7 @@ pub run-requires : goal.run-requires
 run-requires c =
     let f = fits_4 c in
     let w = c.requires.rows in
-    let h = c.Known-of.ensures in
+    let h = c.known_of-known.ensures in
     let t = over_ready 0 (lent_6 c) c.args.allowed c.args.bounds.now c.requires.bounds_value.0 c.requires.bounds_value.1 (judged_3 c) (righted_2 c) (boxed_2 c) in record {
       listed = (
         record {
@@ -154,7 +154,7 @@ run-requires c =
                 sums = record { hull = c.args.h; rows = w.0; range = w.1; few = h.0; shares = λ a. (h.1 a).0 };
               };
           ready = ready (squared (lent_6 c)) _ _ t;
-          box_3 = λ a. (h.1 a).1;
+          box = λ a. (h.1 a).1;
         },
         allowed_few (squared (lent_6 c)) _ _ t,
       );

@@ -42,19 +42,19 @@ lent_3 c = transfers_of c.args.rs.now
 -- its receiver, if it is of the row, or is not
 of_row : (c : goal.Then-not-goes_on) → (nth (lent_2 c) c.loop-k.k).receiver ≡ pos (c.args.i + 1)
 of_row c =
-    let g = c.«record» in
+    let g = c.record-t in
     let a : SFits w64 g.result.receiver = search rules in
     rw g.ensures at (rw (to_z-of_z w64 g.result.receiver a) at (c.is_row.ensures.0 (c.if-not-is_row.false)))
 
 of_row_2 : (c : goal.After-hull-all) → (nth (lent_3 c) c.loop-k.k).receiver ≡ pos (c.args.i + 1)
 of_row_2 c =
-    let g = c.«record» in
+    let g = c.record-t in
     let a : SFits w64 g.result.receiver = search rules in
     rw g.ensures at (rw (to_z-of_z w64 g.result.receiver a) at (c.is_row.ensures.0 (c.if-not-is_row.false)))
 
 not_of_row : (c : goal.Then-not-is_row) → (nth (lent c) c.loop-k.k).receiver ≡ pos (c.args.i + 1) → ⊥
 not_of_row c e =
-    let g = c.«record» in
+    let g = c.record-t in
     let a : SFits w64 g.result.receiver = search rules in
     let f : g.result.receiver ≡ pos (c.args.i + 1) = ap (λ (t : Transfer). t.receiver) g.ensures ∙ e in
     subst T (sym (c.is_row.ensures.1 (to_z-of_z w64 g.result.receiver a ∙ f)) ∙ c.if-not-is_row.true) tt
@@ -90,21 +90,21 @@ returns-then-not-goes_on c =
       held = c.loop-k.invariant.2;
       is = λ h. absurd (omega (arith, h, length_transfers c.args.rs.now));
       passes = λ r e.
-          let g = c.«record».ensures in
+          let g = c.record-t.ensures in
           let w = kept_goes _ _ c.requires.0 _ _ _ (c.loop-k.invariant.4 c.requires.0) c.requires.2 (listed_2 c) (of_row c) r e in
           absurd (subst T (sym (c.goes_on.ensures.1 (rw g w.0) (rw g w.1)) ∙ c.if-not-goes_on.true) tt);
     }
 
 -- the record that was read goes on with the row
-later : (c : goal.After-struct_told-in-loop-k-1) → let t = c.«record».result in Later c.loop-k.columns t.giver × (t.lo ≤ℤ t.hi)
+later : (c : goal.After-struct_told-in-loop-k-1) → let t = c.record-t.result in Later c.loop-k.columns t.giver × (t.lo ≤ℤ t.hi)
 later c = c.goes_on.ensures.0 (c.if-not-goes_on.false)
 
-later_2 : (c : goal.After-hull-all) → let t = c.«record».result in Later c.loop-k.columns t.giver × (t.lo ≤ℤ t.hi)
+later_2 : (c : goal.After-hull-all) → let t = c.record-t.result in Later c.loop-k.columns t.giver × (t.lo ≤ℤ t.hi)
 later_2 c = c.goes_on.ensures.0 (c.if-not-goes_on.false)
 
 pub unsigned-columns-requires : goal.unsigned-columns-requires
 unsigned-columns-requires c =
-    let g = c.«record» in
+    let g = c.record-t in
     let b : SFits w64 g.result.giver = search rules in
     rw (to_z-of_z w64 g.result.giver b) (later c).0.is
 
@@ -124,7 +124,7 @@ module _ {n i from k columns p : ℕ} {ts : List Transfer} {t : Transfer} {h v g
 
 pub loop-k-preserved : goal.loop-k-preserved
 loop-k-preserved c =
-    let g = c.«record» in
+    let g = c.record-t in
     let b : SFits w64 g.result.giver = search rules in
     let u = rw (to_z-of_z w64 g.result.giver b) at c.unsigned-columns.ensures in
     let t = later_2 c in

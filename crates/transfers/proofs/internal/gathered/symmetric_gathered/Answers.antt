@@ -17,4 +17,4 @@ slice_bounds-symmetric_records-end c = sym (length-take-le _ _ (omega (arith, c.
 
 pub returns : goal.returns
 returns c =
-    record { is = λ ts e f. c.symmetric_records.ensures ∙ ap (λ l. call_list (listing c.args.n l c.args.b.now) (symmetric_call c.args.allowed) c.args.bounds.now) (list_again ts c.args.count c.args.t3 e f (omega (arith, c.if-count-gt1024.false))) }
+    record { is = λ ts e f. c.symmetric_records.ensures ∙ ap (λ l. call_list (listing c.args.n l c.args.b.now) (symmetric_call c.args.allowed) c.args.bounds.now) (list_again ts c.args.count c.args.values e f (omega (arith, c.if-count-gt1024.false))) }

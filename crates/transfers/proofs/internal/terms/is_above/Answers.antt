@@ -14,14 +14,14 @@ use Rattle.transfers.proofs.internal.terms.is_above.Goals as goal
 
 pub index-j-requires : goal.index-j-requires
 index-j-requires c =
-    let g = c.«record» in
+    let g = c.record-t in
     let b : SFits w64 g.result.giver = search rules in
     rw (to_z-of_z w64 g.result.giver b, g.ensures) c.requires.k_in_bounds.2.inside
 
 -- the component that is read
 read_component : (c : goal.After-struct_told-3-1) → c.read-b.result ≡ component (transfers_of c.args.rs.now) c.args.x.now c.args.k
 read_component c =
-    let g = c.«record» in
+    let g = c.record-t in
     let b : SFits w64 g.result.giver = search rules in
     let j = rw (to_z-of_z w64 g.result.giver b) at c.index-j.ensures.0 in
     c.read-b.ensures ∙ ap (at c.args.x.now) (j ∙ ap (λ t. nat_abs t.giver - 1) g.ensures)
@@ -31,7 +31,7 @@ returns-then-b-lt0 c = λ e. absurd (subst T (sym e) tt)
 
 pub returns : goal.returns
 returns c =
-    let g = c.«record» in
+    let g = c.record-t in
     let f = c.requires.k_in_bounds.2 in
     let l : SFits w64 g.result.lo = search rules in
     let b : SFits w64 c.read-b.result.lo = search rules in

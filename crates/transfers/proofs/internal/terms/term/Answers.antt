@@ -15,40 +15,40 @@ use Rattle.transfers.proofs.internal.terms.term.Goals as goal
 
 pub index-j-requires : goal.index-j-requires
 index-j-requires c =
-    let g = c.«record» in
+    let g = c.record-t in
     let b : SFits w64 g.result.giver = search rules in
     rw (to_z-of_z w64 g.result.giver b, g.ensures) c.requires.k_in_bounds.2.inside
 
 -- the share and the component that are read
 read_share : (c : goal.Then-above) → c.share-a.result ≡ share (nth (transfers_of c.args.rs.now) c.args.k)
-read_share c = c.share-a.ensures ∙ ap share c.«record».ensures
+read_share c = c.share-a.ensures ∙ ap share c.record-t.ensures
 
 read_share_2 : (c : goal.After-product_above) → c.share-a.result ≡ share (nth (transfers_of c.args.rs.now) c.args.k)
-read_share_2 c = c.share-a.ensures ∙ ap share c.«record».ensures
+read_share_2 c = c.share-a.ensures ∙ ap share c.record-t.ensures
 
 read_share_3 : (c : goal.Else-above) → c.share-a.result ≡ share (nth (transfers_of c.args.rs.now) c.args.k)
-read_share_3 c = c.share-a.ensures ∙ ap share c.«record».ensures
+read_share_3 c = c.share-a.ensures ∙ ap share c.record-t.ensures
 
 read_share_4 : (c : goal.After-exact_product) → c.share-a.result ≡ share (nth (transfers_of c.args.rs.now) c.args.k)
-read_share_4 c = c.share-a.ensures ∙ ap share c.«record».ensures
+read_share_4 c = c.share-a.ensures ∙ ap share c.record-t.ensures
 
 read_component : (c : goal.Then-above) → c.read-b.result ≡ at c.args.x.now (nat_abs (nth (transfers_of c.args.rs.now) c.args.k).giver - 1)
 read_component c =
-    let g = c.«record» in
+    let g = c.record-t in
     let b : SFits w64 g.result.giver = search rules in
     let j = rw (to_z-of_z w64 g.result.giver b) at c.index-j.ensures.0 in
     c.read-b.ensures ∙ ap (at c.args.x.now) (j ∙ ap (λ t. nat_abs t.giver - 1) g.ensures)
 
 read_component_2 : (c : goal.After-product_above) → c.read-b.result ≡ at c.args.x.now (nat_abs (nth (transfers_of c.args.rs.now) c.args.k).giver - 1)
 read_component_2 c =
-    let g = c.«record» in
+    let g = c.record-t in
     let b : SFits w64 g.result.giver = search rules in
     let j = rw (to_z-of_z w64 g.result.giver b) at c.index-j.ensures.0 in
     c.read-b.ensures ∙ ap (at c.args.x.now) (j ∙ ap (λ t. nat_abs t.giver - 1) g.ensures)
 
 read_component_3 : (c : goal.After-exact_product) → c.read-b.result ≡ at c.args.x.now (nat_abs (nth (transfers_of c.args.rs.now) c.args.k).giver - 1)
 read_component_3 c =
-    let g = c.«record» in
+    let g = c.record-t in
     let b : SFits w64 g.result.giver = search rules in
     let j = rw (to_z-of_z w64 g.result.giver b) at c.index-j.ensures.0 in
     c.read-b.ensures ∙ ap (at c.args.x.now) (j ∙ ap (λ t. nat_abs t.giver - 1) g.ensures)
