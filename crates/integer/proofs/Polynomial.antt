@@ -3,7 +3,7 @@
 use mathlib.Core.Path.{◌≡◌, refl, sym, ap, ap₂, ◌∙◌, subst}
 use mathlib.Core.Bool.{Bool, true, false}
 use mathlib.Core.List.{List, [], ◌∷◌}
-use Prim.Native.Nat.{ℕ, zero, suc, ◌+◌, ◌*◌, compare, Ordering}
+use Prim.Native.Nat.{ℕ, zero, suc, compare, Ordering}
 use lib.Dec.{T, leb, compare_is_eq, eqb→eq}
 use lib.IntN.{ℤ, pos, negsuc, neg_ℤ, one, ◌+ℤ◌, ◌-ℤ◌, ◌*ℤ◌, +ℤ_idl, +ℤ_idr, +ℤ_assoc, *ℤ_comm, *ℤ-one, zero-*ℤ, *ℤ-zero}
 use Rattle.integer.proofs.Ring.{+ℤ-left-comm, *ℤ-distr, *ℤ-distl, *ℤ-assoc, neg-*ℤ}

@@ -1,5 +1,5 @@
 -- One turn of a loop that adds up terms on an `i64`: none of them is negative, none is above a limit, and there are few.
-use mathlib.Core.Path.{◌≡◌, ap}
+use mathlib.Core.Path.{◌≡◌}
 use Prim.Native.Nat.{ℕ, ◌+◌, ◌*◌, ◌≤◌, ◌<◌}
 use native.Mathlib.Omega.{arith}
 use native.Mathlib.Nat.{mul-le-mul}
@@ -43,19 +43,19 @@ module _ (f : ℕ → ℤ) (limit n : ℕ) (each : (l : ℕ) → l < n → Term 
     total_fits d h = let k : limit * d ≤ limit * n = mul-le-mul {n₁ = limit} {m₁ = d} {n₂ = limit} {m₂ = n} (omega arith) h in term_fits (omega arith) (total_term_of d h)
 
     -- the sum so far, and the next term
-    module _ (i : ℕ) (h : i < n) {sum : ℕ} {z : ℤ} (e : sum ≡ of_z w64 (total f i 0)) (g : z ≡ f i) where
+    module _ (i : ℕ) (h : i < n) {sum z : ℤ} (e : sum ≡ total f i 0) (g : z ≡ f i) where
       one_fits : SFits w64 (f i)
       one_fits = let k : limit * 1 ≤ limit * n = mul-le-mul {n₁ = limit} {m₁ = 1} {n₂ = limit} {m₂ = n} (omega arith) (omega arith) in term_fits (omega arith) (each i h)
 
-      read_both : to_z w64 sum +ℤ to_z w64 (of_z w64 z) ≡ total f (i + 1) 0
-      read_both = rw (e, g, to_z-of_z w64 (total f i 0) (total_fits i (omega arith)), to_z-of_z w64 (f i) one_fits) (total_more f i)
+      both : sum +ℤ to_z w64 (of_z w64 z) ≡ total f (i + 1) 0
+      both = rw (e, g, to_z-of_z w64 (f i) one_fits) (total_more f i)
 
-      pub add_safe : SFits w64 (to_z w64 sum +ℤ to_z w64 (of_z w64 z))
-      add_safe = rw read_both (total_fits (i + 1) (omega arith))
+      pub add_safe : SFits w64 (sum +ℤ to_z w64 (of_z w64 z))
+      add_safe = rw both (total_fits (i + 1) (omega arith))
 
-      pub add_is : of_z w64 (to_z w64 sum +ℤ to_z w64 (of_z w64 z)) ≡ of_z w64 (total f (i + 1) 0)
-      add_is = ap (of_z w64) read_both
+      pub add_is : to_z w64 (of_z w64 (sum +ℤ to_z w64 (of_z w64 z))) ≡ total f (i + 1) 0
+      add_is = rw both (to_z-of_z w64 (total f (i + 1) 0) (total_fits (i + 1) (omega arith)))
 
     -- the sum at the end
-    pub sum_read : {sum i : ℕ} → sum ≡ of_z w64 (total f i 0) → i ≡ n → to_z w64 sum ≡ total f n 0
-    sum_read e g = rw (e, g) (to_z-of_z w64 (total f n 0) (total_fits n (omega arith)))
+    pub sum_read : {sum : ℤ} {i : ℕ} → sum ≡ total f i 0 → i ≡ n → sum ≡ total f n 0
+    sum_read e g = rw (← g) e

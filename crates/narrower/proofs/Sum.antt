@@ -52,15 +52,15 @@ module _ {n : ℕ} {X : List ℤ} (b : Box n X) where
     pub width_safe : SFits w64 (subtracted v)
     width_safe = rw subtracted_is (difference_fits (component i).hi_in (component i).lo_in)
 
-    module _ (h : i < n) {sum : ℕ} (f : sum ≡ of_z w64 (widths X i 0)) where
-      pub sum_safe : SFits w64 (to_z w64 sum +ℤ to_z w64 (of_z w64 (subtracted v)))
+    module _ (h : i < n) {sum : ℤ} (f : sum ≡ widths X i 0) where
+      pub sum_safe : SFits w64 (sum +ℤ to_z w64 (of_z w64 (subtracted v)))
       unfolding widths
       sum_safe = add_safe _ widest n each few i h f subtracted_is
 
-      pub sum_next : of_z w64 (to_z w64 sum +ℤ to_z w64 (of_z w64 (subtracted v))) ≡ of_z w64 (widths X (i + 1) 0)
+      pub sum_next : to_z w64 (of_z w64 (sum +ℤ to_z w64 (of_z w64 (subtracted v)))) ≡ widths X (i + 1) 0
       unfolding widths
       sum_next = add_is _ widest n each few i h f subtracted_is
 
-  pub sum_end : {sum i : ℕ} → sum ≡ of_z w64 (widths X i 0) → i ≡ n → to_z w64 sum ≡ widths X n 0
+  pub sum_end : {sum : ℤ} {i : ℕ} → sum ≡ widths X i 0 → i ≡ n → sum ≡ widths X n 0
   unfolding widths
   sum_end = sum_read _ widest n each few

@@ -30,7 +30,7 @@ chosen n X Y = cond (is_box n X) (cond (is_box n Y) (by_widths n X Y) First) (co
 unfoldable pub Handed : Choice → (first second handed : Bor (List ℤ)) → Type 0
 Handed First x y r = r ≡ x
 Handed Second x y r = r ≡ y
-Handed Neither x y r = (r.ref_ptr ≡ x.ptr) × (r.now ≡ [])
+Handed Neither x y r = (r.ref_ptr ≡ x.ref_ptr) × (r.now ≡ [])
 
 -- the number of a choice, for C
 abbrev pub choice_number : Choice → ℕ

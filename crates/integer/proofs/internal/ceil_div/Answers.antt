@@ -1,5 +1,5 @@
 use mathlib.Core.Path.{◌∙◌}
-use lib.IntN.{ℤ, pos}
+use lib.IntN.{pos}
 use lib.Signed.{◌<ℤ◌, rem_z}
 use mir.Syntax.{w64}
 use mir.ValLaws.{to_z-of_z}

@@ -1,5 +1,4 @@
 use mathlib.Core.Path.{◌≡◌, sym, ap, ap₂, ◌∙◌}
-use Prim.Native.Nat.{◌-◌}
 use native.Mathlib.Omega.{arith}
 use native.Mathlib.Nat.{sub-zero}
 use borrow.Author.Rules.{rules}
@@ -81,8 +80,8 @@ pub loop-i-preserved : goal.loop-i-preserved
 loop-i-preserved c =
     let q = c.in-At.q in
     let fits : SFits w64 q = search rules in
-    let next : to_z w64 (of_z w64 c.max_of-most.result) ≡ maximum (to_z w64 c.loop-i.most) q =
-    plain _ c.max_of-most.type_inv ∙ c.max_of-most.ensures ∙ ap (maximum (to_z w64 c.loop-i.most)) (to_z-of_z w64 q fits) in
+    let next : to_z w64 (of_z w64 c.max_of-most.result) ≡ maximum (to_z w64 c.loop-i.most-bits) q =
+    plain _ c.max_of-most.type_inv ∙ c.max_of-most.ensures ∙ ap (maximum (to_z w64 c.loop-i.most-bits)) (to_z-of_z w64 q fits) in
     (omega arith, c.loop-i.invariant.1 ∙ rows_go _ _ _ c.loop-i-test.true (ap reach_of (sym c.in-At.is) ∙ row_is_2 c) ∙ ap (over_rows _ _ _) (sym next))
 
 pub returns : goal.returns

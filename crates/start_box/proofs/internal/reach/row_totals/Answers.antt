@@ -1,5 +1,6 @@
 use mathlib.Core.Path.{◌≡◌, refl, ap, ap₂, ◌∙◌}
-use Prim.Native.Nat.{ℕ, ◌-◌, ◌*◌, ◌≤◌, ◌<◌}
+use mathlib.Core.List.{List}
+use Prim.Native.Nat.{ℕ, ◌*◌, ◌≤◌, ◌<◌}
 use native.Mathlib.Omega.{arith}
 use lib.IntN.{ℤ, ◌*ℤ◌}
 use lib.Signed.{le_z_yes}
@@ -16,12 +17,10 @@ use Rattle.inputs.specs.System.{System, system}
 use Rattle.inputs.proofs.Place.{cell_before, row_small}
 use Rattle.start_box.specs.Sums.{magnitude, row_sum}
 use Rattle.start_box.specs.Reach.{coefficients, constants, dividend}
+use Rattle.start_box.specs.Code.{Ready}
 use Rattle.start_box.proofs.Reach.{coefficient_term, product_term, product_fits, rounded_product}
+use Rattle.start_box.proofs.internal.reach.row_totals.Invariants.{products}
 use Rattle.start_box.proofs.internal.reach.row_totals.Goals as goal
-
--- row i, and what is made of it
-abbrev products : System → (i j : ℕ) → ℤ
-products s i j = ceil_div (coefficients s i j *ℤ constants s j) scale
 
 pub overflow_mul-p : goal.overflow_mul-p
 overflow_mul-p c = omega (arith, row_small _ _ c.requires.0.matrix.few c.requires.1)
@@ -78,29 +77,26 @@ rounded c =
     c.scaled_up-z.ensures ∙ ap (λ z. ceil_div z scale) (rw (is_2 c) (to_z-of_z w64 _ (product_fits (product_term c.requires.0 c.args.i c.loop-j.j))))
 
 -- ---- the two sums
-module _ (s : goal.Start) where
-  abbrev n : ℕ
-  n = s.args.n
-
-  entries : (j : ℕ) → j < n → Term 2000000000 (coefficients (lent s) s.args.i j)
-  entries j h = coefficient_term s.requires.0 s.args.i j
+module _ {n : ℕ} {m r : List ℤ} (w : Ready n m r) (i : ℕ) where
+  entries : (j : ℕ) → j < n → Term 2000000000 (coefficients (system n m r) i j)
+  entries j h = coefficient_term w i j
 
   few_entries : 2000000000 * n ≤ 1000000000000000000
-  few_entries = omega (arith, s.requires.0.matrix.few)
+  few_entries = omega (arith, w.matrix.few)
 
-  all_products : (j : ℕ) → j < n → Term 4000000000000 (products (lent s) s.args.i j)
-  all_products j h = rounded_product s.requires.0 s.args.i j
+  all_products : (j : ℕ) → j < n → Term 4000000000000 (products (system n m r) i j)
+  all_products j h = rounded_product w i j
 
   few_products : 4000000000000 * n ≤ 1000000000000000000
-  few_products = omega (arith, s.requires.0.matrix.few)
+  few_products = omega (arith, w.matrix.few)
 
 pub overflow_add-sum : goal.overflow_add-sum
 overflow_add-sum c =
-    add_safe _ 2000000000 c.args.n (entries c) (few_entries c) c.loop-j.j c.loop-j-test.true c.loop-j.inv.1 (entry_2 c)
+    add_safe _ 2000000000 c.args.n (entries c.requires.0 c.args.i) (few_entries c.requires.0 c.args.i) c.loop-j.j c.loop-j-test.true c.loop-j.invariant.1 (entry_2 c)
 
 pub overflow_add-dividend : goal.overflow_add-dividend
 overflow_add-dividend c =
-    add_safe _ 4000000000000 c.args.n (all_products c) (few_products c) c.loop-j.j c.loop-j-test.true c.loop-j.inv.2 (rounded c)
+    add_safe _ 4000000000000 c.args.n (all_products c.requires.0 c.args.i) (few_products c.requires.0 c.args.i) c.loop-j.j c.loop-j-test.true c.loop-j.invariant.2 (rounded c)
 
 pub overflow_step-j : goal.overflow_step-j
 overflow_step-j c = omega arith
@@ -112,14 +108,14 @@ pub loop-j-preserved : goal.loop-j-preserved
 loop-j-preserved c =
     let t = c.loop-j-test.true in (
       omega arith,
-      add_is _ 2000000000 c.args.n (entries c) (few_entries c) c.loop-j.j t c.loop-j.inv.1 (entry_2 c),
-      add_is _ 4000000000000 c.args.n (all_products c) (few_products c) c.loop-j.j t c.loop-j.inv.2 (rounded c),
+      add_is _ 2000000000 c.args.n (entries c.requires.0 c.args.i) (few_entries c.requires.0 c.args.i) c.loop-j.j t c.loop-j.invariant.1 (entry_2 c),
+      add_is _ 4000000000000 c.args.n (all_products c.requires.0 c.args.i) (few_products c.requires.0 c.args.i) c.loop-j.j t c.loop-j.invariant.2 (rounded c),
     )
 
 pub returns : goal.returns
 unfolding row_sum dividend
 returns c =
     record {
-      sum = sum_read _ 2000000000 c.args.n (entries c) (few_entries c) c.loop-j.invariant.1 (omega arith);
-      dividend = sum_read _ 4000000000000 c.args.n (all_products c) (few_products c) c.loop-j.invariant.2 (omega arith);
+      sum = sum_read _ 2000000000 c.args.n (entries c.requires.0 c.args.i) (few_entries c.requires.0 c.args.i) c.loop-j.invariant.1 (omega arith);
+      dividend = sum_read _ 4000000000000 c.args.n (all_products c.requires.0 c.args.i) (few_products c.requires.0 c.args.i) c.loop-j.invariant.2 (omega arith);
     }
