@@ -1,2 +1,3 @@
+#![tactic(auto)]
 // What a start box is worth: statements in specs/, proofs in proofs/.
 pub mod claims;

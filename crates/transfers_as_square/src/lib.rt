@@ -1,2 +1,3 @@
+#![tactic(auto)]
 // What a list of transfers stands for.
 pub mod claims;
