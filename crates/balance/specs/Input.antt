@@ -1,6 +1,6 @@
 -- How much of a buffer was read.
 use Rattle.std.specs.Prelude.{List, ℕ}
-use Rattle.io.specs.Counts.{IsPrefixLen}
+use Rattle.report.specs.Call.{IsPrefixLen}
 use Rattle.balance.specs.declared.Input.{Input}
 use Rattle.balance.specs.declared.Input.TheVariants.{Bytes, Failed}
 

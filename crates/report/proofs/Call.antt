@@ -1,7 +1,7 @@
 -- The calculation by what the calls returned, the sheet by what the calculation returned, and the two calls.
 use mathlib.Core.Path.{◌≡◌, refl, sym, ap, ap₂, ◌∙◌}
 use mathlib.Core.Bool.{Bool, true, false, cond, ◌||◌}
-use mathlib.Core.List.{List, [], ◌∷◌}
+use mathlib.Core.List.{List, ◌∷◌}
 use Prim.Native.Nat.{ℕ, zero, suc, ◌+◌, ◌-◌, ◌*◌, ◌≤◌}
 use native.Mathlib.Omega.{arith}
 use borrow.Author.Tests.{eq-eqb, ne_eqb, eqb-true}
@@ -9,7 +9,6 @@ use lib.Dec.{eqb}
 use lib.IntN.{ℤ, pos}
 use lib.ListN.{length, take, drop, replicate, length-append}
 use lib.Seq.{length-take-le}
-use Rattle.io.specs.Counts.{IsPrefixLen}
 use Rattle.outcome.specs.declared.Outcome.{Outcome}
 use Rattle.outcome.specs.declared.Outcome.TheVariants as outcome
 use Rattle.outcome.specs.Table.{number_and_place}
@@ -26,7 +25,7 @@ use Rattle.text.specs.Call.{over}
 use Rattle.text.specs.Code.{system_of}
 use Rattle.text.proofs.Refusal.{refused_eight}
 use Rattle.report.specs.Sheet.{settled, spent, calculated, refusal}
-use Rattle.report.specs.Call.{onward, calculation, solved, reached, sheet, sheet_or_refusal, printed_for, printed, room, reported, report, print}
+use Rattle.report.specs.Call.{onward, calculation, solved, reached, sheet, sheet_or_refusal, printed_for, printed, room, reported, report, print, IsPrefixLen}
 use Rattle.report.specs.Code.{written, Put}
 use Rattle.report.proofs.Put.{at_start}
 

@@ -1,15 +1,15 @@
 -- The digits of a number.
-use mathlib.Core.Path.{◌≡◌, refl, ap, ap₂, ◌∙◌}
+use mathlib.Core.Path.{◌≡◌, refl, ap, ◌∙◌}
 use mathlib.Core.Bool.{Bool, true, false, cond}
 use mathlib.Core.List.{[], ◌∷◌, ◌++◌}
-use Prim.Native.Nat.{ℕ, zero, suc, ◌*◌, ◌/◌, ◌%◌, ◌^◌, ◌≤◌, ◌<◌}
+use Prim.Native.Nat.{ℕ, zero, suc, ◌/◌, ◌%◌, ◌^◌, ◌≤◌, ◌<◌}
 use native.Mathlib.Omega.{arith}
-use native.Mathlib.Nat.{pow-suc, mod-lt, mod-eq_of_lt, one-le-pow}
-use native.Mathlib.Numerals.{sub-one}
-use borrow.Author.Tests.{lt-ltb, le-ltb, ltb-false}
+use native.Mathlib.Nat.{pow-suc}
+use borrow.Author.Tests.{lt-ltb, ltb-true, ltb-false}
 use lib.Dec.{ltb}
 use lib.ListN.{length, length-append}
-use Rattle.io.specs.Digits.{last_digits, hex_digit_ascii, IsDigitCount}
+use Rattle.std.specs.Fmt.{decimal}
+use Rattle.std.proofs.lemmas.Fmt.{decimal_digit, decimal_step}
 use Rattle.report.specs.Decimal.{digit, digits_within, natural}
 
 -- a number without its last digit
@@ -41,24 +41,16 @@ pub value_few : (n : ℕ) → n ≤ 9999999999 → length (natural n) ≤ 10
 unfolding natural
 value_few n h = few_digits 20 9 n (omega arith)
 
--- ---- the fewest digits that hold a number are all its digits
-glyph_digit : (d : ℕ) → d < 10 → hex_digit_ascii d ≡ digit d
-glyph_digit d h = rw (lt-ltb d 10 h)
-
-fewest_digits : (d k n : ℕ) → n < 10 ^ suc d → IsDigitCount 10 1 n k → last_digits 10 k n ≡ digits_within (suc d) n
+-- ---- they are those that the code prints
+same_digits : (d n : ℕ) → n < 10 ^ suc d → n < 2 ^ 64 → decimal n ≡ digits_within (suc d) n
 unfolding digits_within
-fewest_digits d zero n h f = absurd (omega (arith, f.0))
-fewest_digits d (suc zero) n h f =
-    let l : n < 10 = omega (arith, f.1) in
-    rw (lt-ltb n 10 l) (ap (λ g. g ∷ []) (ap hex_digit_ascii (mod-eq_of_lt l) ∙ glyph_digit n l))
-fewest_digits zero (suc (suc k)) n h f =
-    absurd (omega (arith, rw (sub-one, pow-suc) at (f.2 (omega arith)), one-le-pow k 10 (omega arith)))
-fewest_digits (suc d) (suc (suc k)) n h f =
-    let low : 10 ^ k * 10 ≤ n = rw (sub-one, pow-suc) at (f.2 (omega arith)) in
-    let ten : 10 ≤ n = omega (arith, one-le-pow k 10 (omega arith)) in
-    let g : IsDigitCount 10 1 (n / 10) (suc k) = (omega arith, tenth n (suc k) f.1, λ l. rw sub-one (omega (arith, low))) in
-    rw (le-ltb n 10 ten) (ap₂ (λ l c. l ++ (c ∷ [])) (fewest_digits d (suc k) (n / 10) (tenth n (suc d) h) g) (glyph_digit (n % 10) (mod-lt n (omega arith))))
+same_digits zero n h w = let l : n < 10 = omega arith in rw (lt-ltb n 10 l) (decimal_digit n l)
+same_digits (suc d) n h w = go (ltb n 10) refl (same_digits d (n / 10) (tenth n (suc d) h) (omega arith))
+  where
+    go : (t : Bool) → ltb n 10 ≡ t → decimal (n / 10) ≡ digits_within (suc d) (n / 10) → decimal n ≡ cond t (digit n ∷ []) (digits_within (suc d) (n / 10) ++ (digit (n % 10) ∷ []))
+    go true e less = decimal_digit n (ltb-true n 10 e)
+    go false e less = decimal_step n (ltb-false n 10 e) w ∙ ap (λ ds. ds ++ (digit (n % 10) ∷ [])) less
 
-pub spelled : (k n : ℕ) → n < 2 ^ 64 → IsDigitCount 10 1 n k → last_digits 10 k n ≡ natural n
+pub spelled : (n : ℕ) → n < 2 ^ 64 → decimal n ≡ natural n
 unfolding natural
-spelled k n h f = fewest_digits 19 k n (omega arith) f
+spelled n h = same_digits 19 n (omega arith) h

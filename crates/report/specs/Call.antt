@@ -1,5 +1,5 @@
 -- Document 01, The cellar text: 'The program 'balance' reads standard input, eliminates from B and b, sweeps with 100 allowed, and prints'.
-use Rattle.std.specs.Prelude.{Bool, cond, ◌||◌, List, [], ◌∷◌, ℕ, ◌*◌, eqb, ℤ, pos, length, replicate}
+use Rattle.std.specs.Prelude.{◌≡◌, Bool, cond, ◌||◌, List, [], ◌∷◌, ℕ, ◌*◌, ◌≤◌, eqb, ℤ, pos, length, take, replicate}
 use Rattle.outcome.specs.declared.Outcome.TheVariants as outcome
 use Rattle.outcome.specs.Table.{number_and_place}
 use Rattle.outcome.specs.Run.{Run, refused, done, and_then, Returned, returned, ended}
@@ -67,3 +67,7 @@ report text out =
 -- `print`: all that is printed at the beginning of out, refusals too, and the number of its bytes
 unfoldable pub print : (text out : List ℕ) → Returned (List ℕ)
 print text out = ended (λ s. returned outcome.Done (length s) (over s out)) out (tested (room out) (done (printed text)))
+
+-- the first n bytes of xs can be taken, and are n bytes
+abbrev pub IsPrefixLen : ℕ → List ℕ → Type 0
+IsPrefixLen n xs = (n ≤ length xs) × (n ≡ length (take n xs))

@@ -1,10 +1,11 @@
+#![tactic(auto)]
+
 pub mod claims;
 pub mod internal;
 
 ghost use Rattle.std.specs.Prelude.{◌≡◌};
-ghost use Rattle.io.specs.Counts.{IsPrefixLen};
 ghost use Rattle.outcome.specs.Run.{returned};
-ghost use Rattle.report.specs.Call.{report, print};
+ghost use Rattle.report.specs.Call.{report, print, IsPrefixLen};
 
 use crate::internal::report::put_balance;
 use crate::internal::sheet::put_refusal;

@@ -1,3 +1,5 @@
+#![tactic(auto)]
+
 pub mod internal;
 
 ghost use Rattle.std.specs.Prelude.{◌≡◌, ◌+◌, ◌≤◌, length};
@@ -60,7 +62,7 @@ pub fn read(text: &[u8], matrix: &mut [i64], right: &mut [i64]) -> Numbers
 
 // The name of a vat, by its number, as the part of the text where it stands; an empty part if there is none.
 pub fn name(text: &[u8], component: usize) -> &[u8]
-    ensures start { result.ref_ptr ≡ (text.entry.ptr.0, (name_span text.now component).start + text.entry.ptr.1) }
+    ensures start { result.ref_ptr ≡ (text.entry.ref_ptr.0, (name_span text.now component).start + text.entry.ref_ptr.1) }
     ensures size { length result.now ≡ (name_span text.now component).size }
     ensures bytes { result.now ≡ bytes_of text.now (name_span text.now component) }
 {

@@ -3,6 +3,7 @@ ghost use Rattle.report.specs.Decimal.{natural, decimal};
 ghost use Rattle.report.specs.Code.{Put};
 
 use crate::internal::bytes::{put, put_byte};
+use itoa::Buffer;
 
 // Puts the digits of n, of which there are at most 20.
 pub fn put_natural(out: &mut [u8], at: usize, n: u64) -> usize
@@ -10,9 +11,8 @@ pub fn put_natural(out: &mut [u8], at: usize, n: u64) -> usize
     ensures put { Put out.old at (natural n) out.new result }
     ensures upper_bound { result ≤ at + 20 }
 {
-    let mut digits = [0u8; 20];
-    let k = io::decimal(n, &mut digits);
-    put(out, at, &digits[..k])
+    let mut digits = Buffer::new();
+    put(out, at, digits.format(n).as_bytes())
 }
 
 // The lowest i64 has a magnitude that no i64 holds.
