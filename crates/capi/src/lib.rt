@@ -1,3 +1,4 @@
+#![tactic(auto)]
 // The calls for programs in C and Rust, in the archive that 'rt staticlib capi' makes.
 pub mod boxes;
 pub mod halves;
