@@ -1,5 +1,5 @@
 #![tactic(auto)]
-// The calls for programs in C and Rust, in the archive that 'rt staticlib capi' makes.
+// The calls for programs in C and Rust, in the archive that 'tools/archive capi' makes.
 pub mod boxes;
 pub mod halves;
 pub mod lists;

@@ -1,4 +1,4 @@
-// The search by itself, for the outside check alone: in the archive that 'rt staticlib search' makes, not among the calls for C.
+// The search by itself, for the outside check alone: crate search_c exports it in an archive of its own, not among the calls for C.
 ghost use Rattle.std.specs.Prelude.{◌≡◌, length};
 ghost use Rattle.search.specs.First.{first_from, place_or};
 
