@@ -3,19 +3,27 @@ use crate::lines;
 use narrower::narrower;
 
 // The narrower of two boxes, and its line: how many numbers the one handed back holds, and which.
-fn filled(file: &[u8], from: usize, h: Head, n: usize, x: &mut [i64], y: &mut [i64]) -> usize {
+fn filled(
+    rt: &impl Print,
+    file: &[u8],
+    from: usize,
+    h: Head,
+    n: usize,
+    x: &mut [i64],
+    y: &mut [i64],
+) -> usize {
     let at = fill(file, from, x);
     let at = fill(file, at, y);
     let z = narrower(n, x, y);
-    lines::begin(h);
-    lines::natural(z.len() as u64);
-    lines::numbers(z);
-    lines::end();
+    lines::begin(rt, h);
+    lines::natural(rt, z.len() as u64);
+    lines::numbers(rt, z);
+    lines::end(rt);
     at
 }
 
 // Two boxes: n, their lengths, and the numbers of both.
-pub(crate) fn pair(file: &[u8], h: Head) -> usize {
+pub(crate) fn pair(rt: &impl Print, file: &[u8], h: Head) -> usize {
     let n = read_natural(file, h.at);
     let f = read_natural(file, n.at);
     let s = read_natural(file, f.at);
@@ -24,6 +32,7 @@ pub(crate) fn pair(file: &[u8], h: Head) -> usize {
     let f_size = room(f.value, 128);
     let s_size = room(s.value, 128);
     filled(
+        rt,
         file,
         s.at,
         h,

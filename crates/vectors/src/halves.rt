@@ -62,17 +62,18 @@ fn answer(
 }
 
 // What the state holds where the box of n vats stands; nothing where n is above 32.
-fn show_box(n: usize, state: &[i64])
+fn show_box(rt: &impl Print, n: usize, state: &[i64])
     requires { 66 ≤ length state.now }
 {
     if n > 32 {
         return;
     }
-    lines::numbers(&state[BOX..BOX + 2 * n]);
+    lines::numbers(rt, &state[BOX..BOX + 2 * n]);
 }
 
 // One operation on the first numbers of the state, as many as the file says, and its line: how it ended, and the box that the state holds after it.
 pub(crate) fn call(
+    rt: &impl Print,
     file: &[u8],
     h: Head,
     n: usize,
@@ -88,9 +89,9 @@ pub(crate) fn call(
     let at = w.at;
     let s_size = room(size.value, state.len());
     let o = answer(h.letter, n, matrix, right, bounds, &mut state[..s_size], w);
-    lines::begin(h);
-    lines::outcome(o);
-    show_box(n, state);
-    lines::end();
+    lines::begin(rt, h);
+    lines::outcome(rt, o);
+    show_box(rt, n, state);
+    lines::end(rt);
     at
 }

@@ -86,7 +86,15 @@ fn answer(
 }
 
 // One call, and its line: how the call ended, and all that the box holds after it.
-fn call(file: &[u8], h: Head, n: usize, flat: &[i64], right: &[i64], bounds: &mut [i64]) -> usize
+fn call(
+    rt: &impl Print,
+    file: &[u8],
+    h: Head,
+    n: usize,
+    flat: &[i64],
+    right: &[i64],
+    bounds: &mut [i64],
+) -> usize
     requires { length flat.now ≤ 4100 }
 {
     let allowed = allowance(file, h);
@@ -102,18 +110,19 @@ fn call(file: &[u8], h: Head, n: usize, flat: &[i64], right: &[i64], bounds: &mu
         allowed.value as usize,
     );
     let o = r.outcome;
-    lines::begin(h);
-    lines::outcome(o);
+    lines::begin(rt, h);
+    lines::outcome(rt, o);
     if h.letter != b'E' {
-        lines::natural(r.count as u64);
+        lines::natural(rt, r.count as u64);
     }
-    lines::numbers(bounds);
-    lines::end();
+    lines::numbers(rt, bounds);
+    lines::end(rt);
     allowed.at
 }
 
 // The calls on a list. Each has the box as the one before left it.
 fn calls(
+    rt: &impl Print,
     file: &[u8],
     from: usize,
     n: usize,
@@ -129,13 +138,14 @@ fn calls(
         if !is_call(h.letter) {
             return at;
         }
-        at = call(file, h, n, flat, right, bounds);
+        at = call(rt, file, h, n, flat, right, bounds);
     }
     at
 }
 
 // Reads the numbers of a list, a right side and a box, and runs their calls.
 fn filled(
+    rt: &impl Print,
     file: &[u8],
     from: usize,
     n: usize,
@@ -148,11 +158,11 @@ fn filled(
     let at = fill(file, from, flat);
     let at = fill(file, at, right);
     let at = fill(file, at, bounds);
-    calls(file, at, n, flat, right, bounds)
+    calls(rt, file, at, n, flat, right, bounds)
 }
 
 // A list: n, the lengths of list, right side and box, and the numbers of all three. Its calls follow.
-pub(crate) fn listing(file: &[u8], from: usize) -> usize {
+pub(crate) fn listing(rt: &impl Print, file: &[u8], from: usize) -> usize {
     let n = read_natural(file, from);
     let l = read_natural(file, n.at);
     let r = read_natural(file, l.at);
@@ -164,6 +174,7 @@ pub(crate) fn listing(file: &[u8], from: usize) -> usize {
     let r_size = room(r.value, 128);
     let b_size = room(b.value, 128);
     filled(
+        rt,
         file,
         b.at,
         n.value as usize,

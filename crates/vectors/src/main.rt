@@ -1,3 +1,5 @@
+#![tactic(auto)]
+
 // Runs the cases of the file 'cases' on the library's public calls, and prints one line a case: the number of the case, the call's letter, document 01's number and place,
 // the count if there is one, and what the call wrote. A line of the file begins with the number of its case, if it is one, and a letter:
 //   #                 a remark
@@ -32,45 +34,70 @@ mod steps;
 mod systems;
 mod texts;
 
+ghost use Rattle.report.specs.Call.{IsPrefixLen};
+
 use crate::file::{line_end, read_head};
+use std::fs::File;
+use std::io::Read;
 
 // What begins at a place, and the place after it.
-fn run(cases: &[u8], at: usize) -> usize {
+fn run(rt: &impl Print, cases: &[u8], at: usize) -> usize {
     let h = read_head(cases, at);
     let letter = h.letter;
     match letter {
-        b'+' | b'-' | b'*' | b'/' => steps::step(cases, h),
-        b'M' => systems::system(cases, h.at),
-        b'V' => lists::listing(cases, h.at),
-        b'C' => boxes::pair(cases, h),
-        b'T' => texts::text(cases, h.at),
+        b'+' | b'-' | b'*' | b'/' => steps::step(rt, cases, h),
+        b'M' => systems::system(rt, cases, h.at),
+        b'V' => lists::listing(rt, cases, h.at),
+        b'C' => boxes::pair(rt, cases, h),
+        b'T' => texts::text(rt, cases, h.at),
         b'#' => line_end(cases, h.at),
         0 => cases.len(),
         _ => {
-            lines::say(b"no such call\n");
+            lines::say(rt, b"no such call\n");
             cases.len()
         }
     }
 }
 
 // Each turn passes at least one byte.
-fn run_all(cases: &[u8]) {
+fn run_all(rt: &impl Print, cases: &[u8]) {
     let mut at = 0;
     for k in 0..cases.len() {
-        at = run(cases, at);
+        at = run(rt, cases, at);
         if at >= cases.len() {
             return;
         }
     }
 }
 
-fn main() {
-    let fd = os::open_read(b"cases");
-    if fd < 0 {
-        os::fail(b"cases");
-        return;
+// What the file holds, as far as buf holds it, and no more than was read before a read that fails.
+fn read_cases<R: Read>(file: &mut R, buf: &mut [u8]) -> usize
+    ensures { IsPrefixLen result buf.new }
+{
+    let mut done = 0;
+    while done < buf.len() {
+        match file.read(&mut buf[done..]) {
+            Ok(more) => {
+                if more == 0 {
+                    return done;
+                }
+                done += more;
+            }
+            Err(_) => return done,
+        }
     }
-    let mut cases = [0u8; 1048576];
-    let size = io::read_full(fd, &mut cases);
-    run_all(&cases[..size]);
+    done
+}
+
+fn main(rt: HostRuntime) {
+    match File::open(&rt, "cases") {
+        Ok(mut file) => {
+            let mut cases = [0u8; 1048576];
+            let size = read_cases(&mut file, &mut cases);
+            run_all(&rt, &cases[..size]);
+        }
+        Err(e) => {
+            let _ = eprintln!(rt; "cases: {e}");
+        }
+    }
 }

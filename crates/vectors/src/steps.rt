@@ -37,27 +37,27 @@ fn answer(letter: u8, x: Interval, y: Interval) -> Step {
 }
 
 // Document 01's number and place, and the interval if there is one.
-fn show(s: Step) {
+fn show(rt: &impl Print, s: Step) {
     match s {
         Step::Value(v) => {
-            lines::ended(0, 0);
-            lines::number(v.lo);
-            lines::number(v.hi);
+            lines::ended(rt, 0, 0);
+            lines::number(rt, v.lo);
+            lines::number(rt, v.hi);
         }
-        Step::BadOperand(operand) => lines::ended(3, operand),
-        Step::ZeroDivisor => lines::ended(5, 0),
-        Step::OutOfRange => lines::ended(6, 0),
+        Step::BadOperand(operand) => lines::ended(rt, 3, operand),
+        Step::ZeroDivisor => lines::ended(rt, 5, 0),
+        Step::OutOfRange => lines::ended(rt, 6, 0),
     }
 }
 
 // A step on two intervals: + - * /
-pub(crate) fn step(file: &[u8], h: Head) -> usize {
+pub(crate) fn step(rt: &impl Print, file: &[u8], h: Head) -> usize {
     let x = read_operand(file, h.at);
     let y = read_operand(file, x.at);
     let a = x.value;
     let b = y.value;
-    lines::begin(h);
-    show(answer(h.letter, a, b));
-    lines::end();
+    lines::begin(rt, h);
+    show(rt, answer(h.letter, a, b));
+    lines::end(rt);
     y.at
 }

@@ -58,6 +58,7 @@ fn answer(
 
 // One call on a system, and its line: how the call ended, and all that the box holds after it. Calls on the state have lines of their own.
 fn call(
+    rt: &impl Print,
     file: &[u8],
     h: Head,
     n: usize,
@@ -69,23 +70,24 @@ fn call(
     requires { 66 ≤ length state.old }
 {
     if is_half(h.letter) {
-        return halves::call(file, h, n, matrix, right, bounds, state);
+        return halves::call(rt, file, h, n, matrix, right, bounds, state);
     }
     let allowed = allowance(file, h);
     let r = answer(h.letter, n, matrix, right, bounds, allowed.value as usize);
     let o = r.outcome;
-    lines::begin(h);
-    lines::outcome(o);
+    lines::begin(rt, h);
+    lines::outcome(rt, o);
     if is_sweep(h.letter) {
-        lines::natural(r.count as u64);
+        lines::natural(rt, r.count as u64);
     }
-    lines::numbers(bounds);
-    lines::end();
+    lines::numbers(rt, bounds);
+    lines::end(rt);
     allowed.at
 }
 
 // The calls on a system. Each has the box and the state as the one before left them.
 fn calls(
+    rt: &impl Print,
     file: &[u8],
     from: usize,
     n: usize,
@@ -102,13 +104,14 @@ fn calls(
         if !is_call(h.letter) {
             return at;
         }
-        at = call(file, h, n, matrix, right, bounds, state);
+        at = call(rt, file, h, n, matrix, right, bounds, state);
     }
     at
 }
 
 // Reads the numbers of a system, and runs its calls, with a state that is all 0.
 fn filled(
+    rt: &impl Print,
     file: &[u8],
     from: usize,
     n: usize,
@@ -120,11 +123,11 @@ fn filled(
     let at = fill(file, at, right);
     let at = fill(file, at, bounds);
     let mut state = [0i64; 2436];
-    calls(file, at, n, matrix, right, bounds, &mut state)
+    calls(rt, file, at, n, matrix, right, bounds, &mut state)
 }
 
 // A system: n, the lengths of matrix, right side and box, and the numbers of all three. Its calls follow.
-pub(crate) fn system(file: &[u8], from: usize) -> usize {
+pub(crate) fn system(rt: &impl Print, file: &[u8], from: usize) -> usize {
     let n = read_natural(file, from);
     let m = read_natural(file, n.at);
     let r = read_natural(file, m.at);
@@ -136,6 +139,7 @@ pub(crate) fn system(file: &[u8], from: usize) -> usize {
     let r_size = room(r.value, 128);
     let b_size = room(b.value, 128);
     filled(
+        rt,
         file,
         b.at,
         n.value as usize,

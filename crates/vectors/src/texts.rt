@@ -1,5 +1,5 @@
 ghost use Rattle.std.specs.Prelude.{◌≡◌, ◌≤◌, length, take};
-ghost use Rattle.io.specs.Counts.{IsPrefixLen};
+ghost use Rattle.report.specs.Call.{IsPrefixLen};
 
 use crate::file::{Head, after, read_head, read_natural, room};
 use crate::lines;
@@ -61,109 +61,109 @@ fn join(s: &mut [u8]) {
 }
 
 // What the lent numbers hold up to the last one that is not as lent.
-fn show_used(t: &[i64]) {
-    lines::say(b" :");
+fn show_used(rt: &impl Print, t: &[i64]) {
+    lines::say(rt, b" :");
     let end = used(t);
-    lines::numbers(&t[..end]);
+    lines::numbers(rt, &t[..end]);
 }
 
 // The numbers of a text: how the call ended, n, and what the slices hold.
-fn numbers(text: &[u8], matrix: &mut [i64], right: &mut [i64]) {
+fn numbers(rt: &impl Print, text: &[u8], matrix: &mut [i64], right: &mut [i64]) {
     let r = text::read(text, matrix, right);
     let o = r.outcome;
-    lines::outcome(o);
-    lines::natural(r.size as u64);
-    show_used(matrix);
-    show_used(right);
+    lines::outcome(rt, o);
+    lines::natural(rt, r.size as u64);
+    show_used(rt, matrix);
+    show_used(rt, right);
 }
 
 // Reads into slices of the lengths that the file gives.
-fn read(file: &[u8], at: usize, text: &[u8]) -> usize {
+fn read(rt: &impl Print, file: &[u8], at: usize, text: &[u8]) -> usize {
     let m = read_natural(file, at);
     let r = read_natural(file, m.at);
     let mut matrix = [LENT; 2304];
     let mut right = [LENT; 128];
     let m_size = room(m.value, 2304);
     let r_size = room(r.value, 128);
-    numbers(text, &mut matrix[..m_size], &mut right[..r_size]);
+    numbers(rt, text, &mut matrix[..m_size], &mut right[..r_size]);
     r.at
 }
 
 // A name: its length and its bytes.
-fn name(file: &[u8], at: usize, text: &[u8]) -> usize {
+fn name(rt: &impl Print, file: &[u8], at: usize, text: &[u8]) -> usize {
     let component = read_natural(file, at);
     let name = text::name(text, component.value as usize);
-    lines::natural(name.len() as u64);
-    lines::say(b" :");
-    lines::say(name);
+    lines::natural(rt, name.len() as u64);
+    lines::say(rt, b" :");
+    lines::say(rt, name);
     component.at
 }
 
 // The place of a byte in the text, or 'none'.
-fn find(file: &[u8], at: usize, text: &[u8]) -> usize {
+fn find(rt: &impl Print, file: &[u8], at: usize, text: &[u8]) -> usize {
     let from = read_natural(file, at);
     let sought = read_natural(file, from.at);
     match search::first(text, from.value as usize, room(sought.value, 255) as u8) {
-        Found::At(place) => lines::natural(place as u64),
-        Found::Nothing => lines::say(b" none"),
+        Found::At(place) => lines::natural(rt, place as u64),
+        Found::Nothing => lines::say(rt, b" none"),
     }
     sought.at
 }
 
 // How a call with a sheet ended, the count, and what the slice holds up to the last byte that is not as lent.
-fn show_sheet(w: report::Written, out: &mut [u8]) {
+fn show_sheet(rt: &impl Print, w: report::Written, out: &mut [u8]) {
     let o = w.outcome;
-    lines::outcome(o);
-    lines::natural(w.count as u64);
-    lines::say(b" :");
+    lines::outcome(rt, o);
+    lines::natural(rt, w.count as u64);
+    lines::say(rt, b" :");
     join(out);
     let end = printed(out);
-    lines::say(&out[..end]);
+    lines::say(rt, &out[..end]);
 }
 
 // 'W' reports and 'P' prints.
-fn sheet(text: &[u8], letter: u8, out: &mut [u8]) {
+fn sheet(rt: &impl Print, text: &[u8], letter: u8, out: &mut [u8]) {
     if letter == b'W' {
         let w = report::report(text, out);
-        show_sheet(w, out);
+        show_sheet(rt, w, out);
         return;
     }
     let w = report::print(text, out);
-    show_sheet(w, out);
+    show_sheet(rt, w, out);
 }
 
 // Reports or prints into a slice of the length that the file gives.
-fn print(file: &[u8], at: usize, letter: u8, text: &[u8]) -> usize {
+fn print(rt: &impl Print, file: &[u8], at: usize, letter: u8, text: &[u8]) -> usize {
     let size = read_natural(file, at);
     let mut out = [BLANK; 4096];
     let o_size = room(size.value, 4096);
-    sheet(text, letter, &mut out[..o_size]);
+    sheet(rt, text, letter, &mut out[..o_size]);
     size.at
 }
 
 // One call on a text, and its line.
-fn call(file: &[u8], h: Head, text: &[u8]) -> usize {
-    lines::begin(h);
+fn call(rt: &impl Print, file: &[u8], h: Head, text: &[u8]) -> usize {
+    lines::begin(rt, h);
     let letter = h.letter;
     let at = match letter {
-        b'R' => read(file, h.at, text),
-        b'N' => name(file, h.at, text),
-        b'F' => find(file, h.at, text),
-        _ => print(file, h.at, letter, text),
+        b'R' => read(rt, file, h.at, text),
+        b'N' => name(rt, file, h.at, text),
+        b'F' => find(rt, file, h.at, text),
+        _ => print(rt, file, h.at, letter, text),
     };
-    lines::end();
+    lines::end(rt);
     at
 }
 
 // The calls on a text.
-fn calls(file: &[u8], from: usize, text: &[u8]) -> usize {
+fn calls(rt: &impl Print, file: &[u8], from: usize, text: &[u8]) -> usize {
     let mut at = from;
     for k in 0..file.len() {
         let h = read_head(file, at);
         if !is_call(h.letter) {
             return at;
         }
-        at = call(file, h, text);
+        at = call(rt, file, h, text);
     }
     at
 }
@@ -177,9 +177,9 @@ fn beyond(file: &[u8], start: usize, size: u64) -> usize
 }
 
 // A text: the number of its bytes, a line end, and the bytes. Its calls follow.
-pub(crate) fn text(file: &[u8], from: usize) -> usize {
+pub(crate) fn text(rt: &impl Print, file: &[u8], from: usize) -> usize {
     let size = read_natural(file, from);
     let start = after(file, size.at);
     let stop = beyond(file, start, size.value);
-    calls(file, stop, &file[start..stop])
+    calls(rt, file, stop, &file[start..stop])
 }
