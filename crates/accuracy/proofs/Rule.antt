@@ -10,7 +10,6 @@ use Rattle.integer.proofs.Order.{also, prod, lt_le}
 use Rattle.interval.specs.declared.Interval.{Interval}
 use Rattle.interval.specs.Interval.{width}
 use Rattle.fraction.specs.Fraction.{Fraction, Inside}
-use Rattle.inputs.specs.Place.{at}
 use Rattle.inputs.specs.System.{System}
 use Rattle.rows.specs.Sum.{once}
 use Rattle.elimination.proofs.Accepted.{accepted_A, accepted_B}

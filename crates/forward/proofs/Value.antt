@@ -1,9 +1,7 @@
 -- The values that the calculation makes fit the machine and have their ends in sequence; in the range, they are intervals again.
 use mathlib.Core.Path.{◌≡◌}
 use mathlib.Core.Bool.{true, false}
-use Prim.Native.Nat.{◌≤◌}
 use native.Mathlib.Omega.{arith}
-use lib.IntN.{ℤ}
 use lib.Signed.{◌≤ℤ◌}
 use Rattle.interval.specs.declared.Interval.{Interval}
 use Rattle.interval.specs.Interval.{acceptable, contains_zero, in_range, exact_difference, product, quotient}

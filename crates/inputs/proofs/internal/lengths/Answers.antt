@@ -1,5 +1,4 @@
 use mathlib.Core.Path.{refl, ◌∙◌}
-use Prim.Native.Nat.{◌-◌}
 use native.Mathlib.Omega.{arith}
 use Rattle.inputs.proofs.Tests.{listed_end, listed_wrong, listed_right}
 use Rattle.inputs.proofs.internal.lengths.Goals as goal

@@ -4,7 +4,6 @@ use lib.ListN.{length}
 use Rattle.forward.specs.Pivot.{lowest_row}
 use Rattle.forward.specs.Forward.{table, columns, rows, pivots}
 use Rattle.forward.specs.Code.{Working}
-use Rattle.forward.proofs.Forward
 use Rattle.forward.proofs.internal.forward.forward.Given as goal
 
 abbrev pub invariant-loop-j : goal.invariant-loop-j

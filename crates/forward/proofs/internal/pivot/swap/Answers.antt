@@ -1,5 +1,4 @@
 use mathlib.Core.Path.{refl, sym, ◌∙◌}
-use Prim.Native.Nat.{◌-◌}
 use native.Mathlib.Omega.{arith}
 use Rattle.inputs.proofs.Tests.{square}
 use Rattle.forward.proofs.Swap.{swapped_self, columns_turn, swapped_by}

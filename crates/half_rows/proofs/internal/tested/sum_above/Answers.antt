@@ -1,5 +1,5 @@
 use mathlib.Core.Path.{◌≡◌, ap, sym, subst, ◌∙◌}
-use Prim.Native.Nat.{ℕ, ◌-◌}
+use Prim.Native.Nat.{ℕ}
 use native.Mathlib.Omega.{arith}
 use Rattle.interval.specs.Interval.{acceptable}
 use Rattle.wide_sum.proofs.Near.{near_both_more}

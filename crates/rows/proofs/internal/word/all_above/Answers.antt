@@ -1,9 +1,7 @@
 use mathlib.Core.Path.{sym, subst}
-use Prim.Native.Nat.{◌-◌}
 use native.Mathlib.Omega.{arith}
 use lib.Dec.{T}
 use Rattle.interval.proofs.Range.{is_sound, negative_left}
-use Rattle.inputs.specs.Place.{at}
 use Rattle.rows.proofs.Word.{above_more, above_all}
 use Rattle.rows.proofs.internal.word.all_above.Goals as goal
 

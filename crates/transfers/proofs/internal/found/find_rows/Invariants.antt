@@ -3,7 +3,6 @@ use mathlib.Core.Bool.{true}
 use Prim.Native.Nat.{◌-◌, ◌*◌, ◌≤◌}
 use lib.ListN.{length}
 use Rattle.interval.specs.Interval.{zero}
-use Rattle.transfers.specs.declared.internal.found.Found as declared
 use Rattle.transfers.specs.Listing.{transfers_of}
 use Rattle.transfers.specs.Code.{all_good}
 use Rattle.transfers.specs.Rows.{Holds, InRange}

@@ -24,9 +24,9 @@ loop-k-preserved c =
     let hi : SFits w64 t.hi = search rules in (
       omega arith,
       simp (to_z-of_z w64, receiver, giver, lo, hi) (
-        ap (λ (r : Transfer). set c.loop-k.rs c.loop-k.k (numbers_of r)) c.record_at-t.ensures
-        ∙ put_more c.args.ts.now c.args.rs.now c.loop-k.rs c.loop-k.k (omega arith) (omega arith) c.loop-k.invariant.1
-      ),
+          ap (λ (r : Transfer). set c.loop-k.rs c.loop-k.k (numbers_of r)) c.record_at-t.ensures
+          ∙ put_more c.args.ts.now c.args.rs.now c.loop-k.rs c.loop-k.k (omega arith) (omega arith) c.loop-k.invariant.1
+          ),
     )
 
 pub returns : goal.returns

@@ -1,4 +1,4 @@
-use Rattle.std.proofs.Common.{◌≡◌, ◌++◌, ◌-◌, ◌≤◌, length, take, drop}
+use Rattle.std.proofs.Common.{◌≡◌, ◌++◌, ◌-◌, ◌≤◌, take, drop}
 use Rattle.transfers.specs.Code.{records_of}
 use Rattle.transfers.proofs.internal.gather.gather.Given as goal
 

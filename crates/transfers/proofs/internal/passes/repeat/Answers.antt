@@ -1,5 +1,4 @@
 use mathlib.Core.Path.{refl, sym, ◌∙◌}
-use Prim.Native.Nat.{◌-◌}
 use native.Mathlib.Omega.{arith}
 use native.Mathlib.Nat.{sub-zero}
 use Rattle.sweep.proofs.Log.{sweeps_spent, sweeps_stopped, sweeps_settled, sweeps_go, since_start, since_more, logged_empty, logged_settled, logged_spent, was_empty, was_whole, was_flagged}
