@@ -21,6 +21,6 @@ pub record Encloses (f : RowSum) : Type 0 where
       → ((j : ℕ) → j < d → Inside (at x (q + j)) (w j))
       → Inside (f m p x q d) (exact_row c w d 0 nought)
 
--- 'the row_sum facts once for any n': the row that is rounded once does
+-- 'the row-sum facts once for any n': the row that is rounded once does
 abbrev pub OnceEncloses : Type 0
 OnceEncloses = Encloses once

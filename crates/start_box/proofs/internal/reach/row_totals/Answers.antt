@@ -13,13 +13,14 @@ use Rattle.integer.proofs.Order.{trans}
 use Rattle.integer.proofs.Machine.{plain}
 use Rattle.integer.proofs.Summing.{Term, add_safe, add_is, sum_read}
 use Rattle.interval.specs.Interval.{scale}
-use Rattle.inputs.specs.System.{System, system}
+use Rattle.inputs.specs.System.{system}
 use Rattle.inputs.proofs.Place.{cell_before, row_small}
 use Rattle.start_box.specs.Sums.{magnitude, row_sum}
 use Rattle.start_box.specs.Reach.{coefficients, constants, dividend}
 use Rattle.start_box.specs.Code.{Ready}
 use Rattle.start_box.proofs.Reach.{coefficient_term, product_term, product_fits, rounded_product}
 use Rattle.start_box.proofs.internal.reach.row_totals.Invariants.{products}
+use Rattle.start_box.proofs.internal.reach.row_totals.Goals.{After-magnitude-b}
 use Rattle.start_box.proofs.internal.reach.row_totals.Goals as goal
 
 pub overflow_mul-p : goal.overflow_mul-p
@@ -45,36 +46,25 @@ pub magnitude-b-requires : goal.magnitude-b-requires
 magnitude-b-requires c = rw c.read-w.ensures (c.requires.0.right.sound.each _)
 
 -- this turn's entry of the row, and its product
-abbrev lent : goal.After-magnitude-b → System
-lent s = system s.args.n s.args.m.now s.args.r.now
-
--- this turn's entry of the row, and its product
-abbrev lent_2 : goal.After-scaled_up-z → System
-lent_2 s = system s.args.n s.args.m.now s.args.r.now
-
-entry : (c : goal.After-magnitude-b) → c.magnitude-a.result ≡ coefficients (lent c) c.args.i c.loop-j.j
+entry : (c : After-magnitude-b) → c.magnitude-a.result ≡ coefficients (system c.args.n c.args.m.now c.args.r.now) c.args.i c.loop-j.j
 entry c = c.magnitude-a.ensures ∙ ap magnitude c.read-v.ensures
 
-entry_2 : (c : goal.After-scaled_up-z) → c.magnitude-a.result ≡ coefficients (lent_2 c) c.args.i c.loop-j.j
-entry_2 c = c.magnitude-a.ensures ∙ ap magnitude c.read-v.ensures
-
-is : (c : goal.After-magnitude-b) → to_z w64 (of_z w64 c.magnitude-a.result) *ℤ to_z w64 (of_z w64 c.magnitude-b.result) ≡ coefficients (lent c) c.args.i c.loop-j.j *ℤ constants (lent c) c.loop-j.j
+is : (c : After-magnitude-b) → let s = system c.args.n c.args.m.now c.args.r.now in
+    to_z w64 (of_z w64 c.magnitude-a.result) *ℤ to_z w64 (of_z w64 c.magnitude-b.result) ≡ coefficients s c.args.i c.loop-j.j *ℤ constants s c.loop-j.j
 is c = ap₂ ◌*ℤ◌ (plain _ c.magnitude-a.type_inv ∙ entry c) (plain _ c.magnitude-b.type_inv ∙ c.magnitude-b.ensures ∙ ap magnitude c.read-w.ensures)
 
-is_2 : (c : goal.After-scaled_up-z) → to_z w64 (of_z w64 c.magnitude-a.result) *ℤ to_z w64 (of_z w64 c.magnitude-b.result) ≡ coefficients (lent_2 c) c.args.i c.loop-j.j *ℤ constants (lent_2 c) c.loop-j.j
-is_2 c = ap₂ ◌*ℤ◌ (plain _ c.magnitude-a.type_inv ∙ entry_2 c) (plain _ c.magnitude-b.type_inv ∙ c.magnitude-b.ensures ∙ ap magnitude c.read-w.ensures)
-
 pub overflow_mul-a : goal.overflow_mul-a
-overflow_mul-a c = rw (is c) (product_fits (product_term c.requires.0 c.args.i c.loop-j.j))
+overflow_mul-a c = rw (is (goal.at.overflow_mul-a c).After-magnitude-b) (product_fits (product_term c.requires.0 c.args.i c.loop-j.j))
 
 pub scaled_up-z-requires : goal.scaled_up-z-requires
 scaled_up-z-requires c =
     let t = product_term c.requires.0 c.args.i c.loop-j.j in
-    rw (is c, to_z-of_z w64 _ (product_fits t)) record { negsuc_bound = trans (le_z_yes tt) t.above; p_bound = t.at_most }
+    rw (is (goal.at.scaled_up-z-requires c).After-magnitude-b, to_z-of_z w64 _ (product_fits t)) record { negsuc_bound = trans (le_z_yes tt) t.above; p_bound = t.at_most }
 
-rounded : (c : goal.After-scaled_up-z) → c.scaled_up-z.result ≡ products (lent_2 c) c.args.i c.loop-j.j
-rounded c =
-    c.scaled_up-z.ensures ∙ ap (λ z. ceil_div z scale) (rw (is_2 c) (to_z-of_z w64 _ (product_fits (product_term c.requires.0 c.args.i c.loop-j.j))))
+rounded : (c : After-magnitude-b) {z : ℤ} → let s = system c.args.n c.args.m.now c.args.r.now in
+    z ≡ ceil_div (to_z w64 (of_z w64 (to_z w64 (of_z w64 c.magnitude-a.result) *ℤ to_z w64 (of_z w64 c.magnitude-b.result)))) scale → z ≡ products s c.args.i c.loop-j.j
+rounded c e =
+    e ∙ ap (λ z. ceil_div z scale) (rw (is c) (to_z-of_z w64 _ (product_fits (product_term c.requires.0 c.args.i c.loop-j.j))))
 
 -- ---- the two sums
 module _ {n : ℕ} {m r : List ℤ} (w : Ready n m r) (i : ℕ) where
@@ -92,11 +82,11 @@ module _ {n : ℕ} {m r : List ℤ} (w : Ready n m r) (i : ℕ) where
 
 pub overflow_add-sum : goal.overflow_add-sum
 overflow_add-sum c =
-    add_safe _ 2000000000 c.args.n (entries c.requires.0 c.args.i) (few_entries c.requires.0 c.args.i) c.loop-j.j c.loop-j-test.true c.loop-j.invariant.1 (entry_2 c)
+    add_safe _ 2000000000 c.args.n (entries c.requires.0 c.args.i) (few_entries c.requires.0 c.args.i) c.loop-j.j c.loop-j-test.true c.loop-j.invariant.1 (entry (goal.at.overflow_add-sum c).After-magnitude-b)
 
 pub overflow_add-dividend : goal.overflow_add-dividend
 overflow_add-dividend c =
-    add_safe _ 4000000000000 c.args.n (all_products c.requires.0 c.args.i) (few_products c.requires.0 c.args.i) c.loop-j.j c.loop-j-test.true c.loop-j.invariant.2 (rounded c)
+    add_safe _ 4000000000000 c.args.n (all_products c.requires.0 c.args.i) (few_products c.requires.0 c.args.i) c.loop-j.j c.loop-j-test.true c.loop-j.invariant.2 (rounded (goal.at.overflow_add-dividend c).After-magnitude-b c.scaled_up-z.ensures)
 
 pub overflow_step-j : goal.overflow_step-j
 overflow_step-j c = omega arith
@@ -106,10 +96,11 @@ loop-j-smaller c = omega arith
 
 pub loop-j-preserved : goal.loop-j-preserved
 loop-j-preserved c =
+    let p = (goal.at.loop-j-preserved c).After-magnitude-b in
     let t = c.loop-j-test.true in (
       omega arith,
-      add_is _ 2000000000 c.args.n (entries c.requires.0 c.args.i) (few_entries c.requires.0 c.args.i) c.loop-j.j t c.loop-j.invariant.1 (entry_2 c),
-      add_is _ 4000000000000 c.args.n (all_products c.requires.0 c.args.i) (few_products c.requires.0 c.args.i) c.loop-j.j t c.loop-j.invariant.2 (rounded c),
+      add_is _ 2000000000 c.args.n (entries c.requires.0 c.args.i) (few_entries c.requires.0 c.args.i) c.loop-j.j t c.loop-j.invariant.1 (entry p),
+      add_is _ 4000000000000 c.args.n (all_products c.requires.0 c.args.i) (few_products c.requires.0 c.args.i) c.loop-j.j t c.loop-j.invariant.2 (rounded p c.scaled_up-z.ensures),
     )
 
 pub returns : goal.returns

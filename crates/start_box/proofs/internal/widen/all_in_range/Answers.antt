@@ -8,6 +8,7 @@ use mir.ValLaws.{to_z-of_z}
 use Rattle.interval.specs.Interval.{in_range}
 use Rattle.start_box.specs.Call.{widened, all_in_range}
 use Rattle.start_box.proofs.Widen.{range_end, range_stop, range_go}
+use Rattle.start_box.proofs.internal.widen.all_in_range.Goals.{Start, After-in_range}
 use Rattle.start_box.proofs.internal.widen.all_in_range.Goals as goal
 
 pub loop-i-init : goal.loop-i-init
@@ -17,26 +18,18 @@ pub widened-v-requires : goal.widened-v-requires
 widened-v-requires c = (c.requires.0, rw (to_z-of_z w64 _ c.ranges.distance) c.requires.1, c.loop-i-test.true)
 
 -- the test of this component
-test : (c : goal.Then-not-in_range) → let a = c.args in
+test : (c : After-in_range) → let a = c.args in
     c.in_range.result ≡ in_range (widened a.r.now (to_z w64 (of_z w64 a.distance)) c.loop-i.i)
 test c = c.in_range.ensures ∙ ap in_range c.widened-v.ensures
 
--- the test of this component
-test_2 : (c : goal.Else-not-in_range) → let a = c.args in
-    c.in_range.result ≡ in_range (widened a.r.now (to_z w64 (of_z w64 a.distance)) c.loop-i.i)
-test_2 c = c.in_range.ensures ∙ ap in_range c.widened-v.ensures
-
 -- the distance, as the code has it
-told : (s : goal.Then-not-in_range) {b : Bool} → let a = s.args in all_in_range (widened a.r.now (to_z w64 (of_z w64 a.distance))) a.n 0 ≡ b → b ≡ all_in_range (widened a.r.now a.distance) a.n 0
+told : (s : Start) {b : Bool} → let a = s.args in all_in_range (widened a.r.now (to_z w64 (of_z w64 a.distance))) a.n 0 ≡ b → b ≡ all_in_range (widened a.r.now a.distance) a.n 0
 told s e = sym (rw (to_z-of_z w64 _ s.ranges.distance) at e)
-
--- the distance, as the code has it
-told_2 : (s : goal.After-loop-i) {b : Bool} → let a = s.args in all_in_range (widened a.r.now (to_z w64 (of_z w64 a.distance))) a.n 0 ≡ b → b ≡ all_in_range (widened a.r.now a.distance) a.n 0
-told_2 s e = sym (rw (to_z-of_z w64 _ s.ranges.distance) at e)
 
 pub returns-then-not-in_range : goal.returns-then-not-in_range
 returns-then-not-in_range c =
-    told c (c.loop-i.invariant.1 ∙ range_stop _ _ _ c.loop-i-test.true (sym (test c) ∙ c.if-not-in_range.true))
+    let p = goal.at.returns-then-not-in_range c in
+    told p.Start (c.loop-i.invariant.1 ∙ range_stop _ _ _ c.loop-i-test.true (sym (test p.After-in_range) ∙ c.if-not-in_range.true))
 
 pub overflow_step-i : goal.overflow_step-i
 overflow_step-i c = omega arith
@@ -46,7 +39,7 @@ loop-i-smaller c = omega arith
 
 pub loop-i-preserved : goal.loop-i-preserved
 loop-i-preserved c =
-    (omega arith, c.loop-i.invariant.1 ∙ range_go _ _ _ c.loop-i-test.true (sym (test_2 c) ∙ c.if-not-in_range.false))
+    (omega arith, c.loop-i.invariant.1 ∙ range_go _ _ _ c.loop-i-test.true (sym (test (goal.at.loop-i-preserved c).After-in_range) ∙ c.if-not-in_range.false))
 
 pub returns : goal.returns
-returns c = told_2 c (c.loop-i.invariant.1 ∙ range_end _ _ _ c.loop-i-test.false)
+returns c = told (goal.at.returns c).Start (c.loop-i.invariant.1 ∙ range_end _ _ _ c.loop-i-test.false)
