@@ -10,7 +10,7 @@ fn main() {
     let archive = directory.join("libsearch.a");
     if !archive.is_file() {
         eprintln!("there is no archive {}", archive.display());
-        eprintln!("run 'rt staticlib search' in the repository of kifwaleb");
+        eprintln!("run 'tools/archive search' in the repository of kifwaleb");
         process::exit(1);
     }
     // A renewed archive must be linked anew.

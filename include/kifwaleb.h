@@ -1,7 +1,7 @@
 /*
  * Kifwaleb: bounds on one farm's milk through a loop of vats.
  *
- * The calls of the archive target/staticlib/libcapi.a, which 'rt staticlib capi'
+ * The calls of the archive target/staticlib/libcapi.a, which 'tools/archive capi'
  * makes. It is for x86-64 Linux.
  *
  * THE INTERFACE IS NOT FROZEN. A later version adds a slice of load-cell

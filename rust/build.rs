@@ -14,7 +14,7 @@ fn main() {
     let archive = directory.join("libcapi.a");
     if !archive.is_file() {
         eprintln!("there is no archive {}", archive.display());
-        eprintln!("run 'rt staticlib capi' in the repository of kifwaleb, or let {NAMED} name the folder it is in");
+        eprintln!("run 'tools/archive capi' in the repository of kifwaleb, or let {NAMED} name the folder it is in");
         process::exit(1);
     }
     // A renewed archive must be linked anew.

@@ -1,6 +1,6 @@
 //! Bounds on one farm's milk through a loop of vats.
 //!
-//! Safe calls of the proved archive that `rt staticlib capi` makes: slices in,
+//! Safe calls of the proved archive that `tools/archive capi` makes: slices in,
 //! an enum out. Every input is answered, and a refusal changes nothing that was
 //! lent.
 //!
