@@ -121,4 +121,4 @@ module _ (s : System) (X : List ℤ) where
       go (done t) f = rw f
 
 pub six_never_new : SixNeverNew
-six_never_new = record { from_A = beside_A; from_B = beside_B; forward_A_lem = same_A; forward_B_lem = same_B }
+six_never_new = record { from_A = beside_A; from_B = beside_B; as_before_A = same_A; as_before_B = same_B }

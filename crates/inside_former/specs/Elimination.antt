@@ -31,5 +31,5 @@ pub record SixNeverNew : Type 0 where
   pub from_A : (s : System) (box : List ℤ) → Beside s.size (ended_A lowest_row singly s box) (over_A s box)
   pub from_B : (s : System) (box : List ℤ) → Beside s.size (ended_B lowest_row singly s box) (over_B s box)
   -- what is refused before back-substitution, with 5 or 6, is refused exactly as before
-  pub forward_A_lem : (s : System) (box : List ℤ) (o : Outcome) → forward_A s ≡ refused o → over_A s box ≡ ended_A lowest_row singly s box
-  pub forward_B_lem : (s : System) (box : List ℤ) (o : Outcome) → forward_B s ≡ refused o → over_B s box ≡ ended_B lowest_row singly s box
+  pub as_before_A : (s : System) (box : List ℤ) (o : Outcome) → forward_A s ≡ refused o → over_A s box ≡ ended_A lowest_row singly s box
+  pub as_before_B : (s : System) (box : List ℤ) (o : Outcome) → forward_B s ≡ refused o → over_B s box ≡ ended_B lowest_row singly s box
