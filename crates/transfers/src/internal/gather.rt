@@ -15,15 +15,23 @@ pub fn record_at(ts: &[Transfer], k: usize) -> Transfer
 }
 
 // The numbers of t stand at k.
-pub fn put_record<'a>(rs: &'a mut [[i64; 4]], k: usize, t: Transfer) -> &'a mut [[i64; 4]]
+fn write_record(rs: &mut [[i64; 4]], k: usize, t: Transfer)
     requires { k < length rs.old }
-    ensures { result ≡ at_last rs.entry (set rs.old k (numbers_of t)) }
+    ensures { rs.new ≡ set rs.old k (numbers_of t) }
 {
     let receiver = t.receiver;
     let giver = t.giver;
     let lo = t.lo;
     let hi = t.hi;
     rs[k] = [receiver, giver, lo, hi];
+}
+
+// The same, and the list is handed on.
+pub fn put_record<'a>(rs: &'a mut [[i64; 4]], k: usize, t: Transfer) -> &'a mut [[i64; 4]]
+    requires { k < length rs.old }
+    ensures { result ≡ at_last rs.entry (set rs.old k (numbers_of t)) }
+{
+    write_record(rs, k, t);
     rs
 }
 
@@ -35,7 +43,7 @@ pub fn gather(ts: &[Transfer], n: usize, rs: &mut [[i64; 4]])
     let mut k: usize = 0;
     while k < n {
         let t = record_at(ts, k);
-        rs[k] = [t.receiver, t.giver, t.lo, t.hi];
+        write_record(rs, k, t);
         k += 1;
     }
 }

@@ -1,12 +1,8 @@
 use mathlib.Core.Path.{◌≡◌, ap, subst, ◌∙◌}
 use native.Mathlib.Omega.{arith}
-use borrow.Author.Rules.{rules}
 use lib.ListN.{set, take, drop}
 use mathlib.Core.List.{◌++◌}
 use Prim.Native.Nat.{ℕ}
-use mir.Syntax.{w64}
-use mir.Val.{SFits}
-use mir.ValLaws.{to_z-of_z}
 use Rattle.transfers.specs.declared.Transfer.{Transfer}
 use Rattle.transfers.specs.Code.{numbers_of, records_of}
 use Rattle.transfers.proofs.Gathered.{none_put, put_more}
@@ -17,16 +13,10 @@ loop-k-init c = (omega arith, none_put c.args.ts.now c.args.rs.now)
 
 pub loop-k-preserved : goal.loop-k-preserved
 loop-k-preserved c =
-    let t = c.record_at-t.result in
-    let giver : SFits w64 t.giver = search rules in
-    let receiver : SFits w64 t.receiver = search rules in
-    let lo : SFits w64 t.lo = search rules in
-    let hi : SFits w64 t.hi = search rules in (
+    let rs = c.loop-k.rs in (
       omega arith,
-      simp (to_z-of_z w64, receiver, giver, lo, hi) (
-          ap (λ (r : Transfer). set c.loop-k.rs c.loop-k.k (numbers_of r)) c.record_at-t.ensures
-          ∙ put_more c.args.ts.now c.args.rs.now c.loop-k.rs c.loop-k.k (omega arith) (omega arith) c.loop-k.invariant.1
-          ),
+      c.write_record.ensures ∙ ap (λ (r : Transfer). set rs c.loop-k.k (numbers_of r)) c.record_at-t.ensures
+          ∙ put_more c.args.ts.now c.args.rs.now rs c.loop-k.k (omega arith) (omega arith) c.loop-k.invariant.1,
     )
 
 pub returns : goal.returns
