@@ -8,3 +8,4 @@ pub mod Extremes
 pub mod Machine
 pub mod Total
 pub mod Summing
+pub mod Divided

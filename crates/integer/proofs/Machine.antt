@@ -122,9 +122,6 @@ module _ (z d : ℤ) (h : pos 0 <ℤ d) where
 
 -- ---- as a proof of code meets them
 module _ (a d : ℤ) (fa : SFits w64 a) (fd : SFits w64 d) (h : pos 0 <ℤ d) where
-  pub quot_safe : (0 < of_z w64 d) × SFits w64 (quot_z (to_z w64 (of_z w64 a)) (to_z w64 (of_z w64 d)))
-  quot_safe = (pos_bits d h, op_safe quot_z a d fa fd (quot_fits a d fa h))
-
   pub quot_read : to_z w64 (of_z w64 (quot_z (to_z w64 (of_z w64 a)) (to_z w64 (of_z w64 d)))) ≡ quot_z a d
   quot_read = op_read quot_z a d fa fd (quot_fits a d fa h)
 

@@ -3,6 +3,7 @@ ghost use Rattle.integer.specs.Rounding.{floor_div, ceil_div};
 ghost use Rattle.integer.specs.Extremes.{minimum, maximum};
 
 // a / d rounded down
+#[tactic(auto, using(crate::proofs::Divided::floor_less, crate::proofs::Divided::floor_whole))]
 pub fn floor_div(a: i64, d: i64) -> i64
     requires { pos 0 <ℤ d }
     ensures { result ≡ floor_div a d }
@@ -13,6 +14,7 @@ pub fn floor_div(a: i64, d: i64) -> i64
 }
 
 // a / d rounded up
+#[tactic(auto, using(crate::proofs::Divided::ceil_more, crate::proofs::Divided::ceil_whole))]
 pub fn ceil_div(a: i64, d: i64) -> i64
     requires { pos 0 <ℤ d }
     ensures { result ≡ ceil_div a d }
