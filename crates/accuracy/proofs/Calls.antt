@@ -9,8 +9,8 @@ use lib.ListN.{length}
 use Rattle.outcome.specs.Table.{number_and_place}
 use Rattle.outcome.specs.Run.{Run, refused, done, ended}
 use Rattle.interval.proofs.Range.{is_sound}
-use Rattle.inputs.specs.declared.Test.{Test}
-use Rattle.inputs.specs.declared.Test.TheVariants.{Pass, Fail}
+use Rattle.inputs.specs.Tests.{Test}
+use Rattle.std.specs.Prelude.{Ok, Err}
 use Rattle.inputs.specs.Place.{at}
 use Rattle.inputs.specs.Tests.{tested}
 use Rattle.inputs.specs.System.{System}
@@ -42,7 +42,7 @@ record Ready (s : System) (X : List ℤ) : Type 0 where
   fitting : length X ≡ 2 * s.size
   ordered : Ordered s.size X
 
-ready : (s : System) (k : ℕ) (X : List ℤ) → tests s k X ≡ Pass → Ready s X
+ready : (s : System) (k : ℕ) (X : List ℤ) → tests s k X ≡ Ok tt → Ready s X
 ready s k X e =
     let w = sweep.ready s k X e in
     record { fitting = w.box; ordered = record { each = λ j h. (is_sound (at X j) (w.box_sound.each j)).order } }
@@ -70,7 +70,7 @@ module _ (s : System) where
 
   -- ---- one call: where it runs, its tests passed, and where it does not, it does not say 7
   abbrev pub OnRun : List ℤ → Run Log → Type 0
-  OnRun X (refused o) = eqb (number_and_place o).number 7 ≡ false
+  OnRun X (refused o) = eqb (number_and_place (Err o)).number 7 ≡ false
   OnRun X (done l) = Ordered s.size X × OnLog X l
 
   on_call : {p : List ℤ → Run (List ℤ)} → Faithful s p → (k : ℕ) (X : List ℤ) → OnRun X (tested (tests s k X) (done (sweeps s.size p k X)))
@@ -78,8 +78,8 @@ module _ (s : System) where
   on_call {p} h k X = go (tests s k X) refl
     where
       go : (t : Test) → tests s k X ≡ t → OnRun X (tested t (done (sweeps s.size p k X)))
-      go Pass e = let r = ready s k X e in (r.ordered, on_sweeps h s.size k X r.fitting)
-      go (Fail o) e = refused_not_empty s k X e
+      go (Ok _) e = let r = ready s k X e in (r.ordered, on_sweeps h s.size k X r.fitting)
+      go (Err o) e = refused_not_empty s k X e
 
   pub on_run : (c : Call) (X : List ℤ) → OnRun X (run s c X)
   unfolding run_by

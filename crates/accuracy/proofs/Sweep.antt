@@ -24,7 +24,7 @@ use Rattle.rows.specs.Exact.{nought, exact_row, Encloses}
 use Rattle.sweep.proofs.Turns.{Below, sweep_below, symmetric_below, symmetric_along}
 use Rattle.sweep.proofs.Pass.{not_empty, component_narrows, put_narrows}
 use Rattle.sweep.specs.Pass.{component, along, up, down, sweep, symmetric}
-use Rattle.outcome.specs.declared.Outcome.TheVariants as outcome
+use Rattle.outcome.specs.declared.Refusal.TheVariants as refusal
 use Rattle.outcome.specs.Run.{Run, refused}
 use Rattle.accuracy.specs.Solution.{Solution, InBox}
 use Rattle.accuracy.proofs.Common.{same_trans}
@@ -110,7 +110,7 @@ module _ (sum : RowSum) (encloses : Encloses sum) (s : System) where
       rest : Run (List ℤ)
       rest = along sum s is (put X i v)
 
-      go : (t : Bool) → is_empty v ≡ t → (is_empty v ≡ false → OnPass s X₀ rest) → OnPass s X₀ (cond t (refused (outcome.Empty (i + 1))) rest)
+      go : (t : Bool) → is_empty v ≡ t → (is_empty v ≡ false → OnPass s X₀ rest) → OnPass s X₀ (cond t (refused (refusal.Empty (i + 1))) rest)
       go true q g = earlier s f (λ x sol k. held_not_empty q (component_inside X i b.0 x sol k))
       go false q g = g q
 

@@ -1,7 +1,7 @@
 -- An outcome and its count in the flat form.
 use mathlib.Core.Path.{◌≡◌, ap}
 use Prim.Native.Nat.{ℕ}
-use Rattle.outcome.specs.declared.Outcome.{Outcome}
+use Rattle.outcome.specs.Table.{Outcome}
 use Rattle.outcome.specs.Run.{Returned, returned}
 use Rattle.capi.specs.declared.systems.KifwalebOutcome.{KifwalebOutcome}
 use Rattle.capi.specs.Flat.{call_of}

@@ -4,7 +4,7 @@ ghost use Rattle.start_box.specs.Call.{start_box};
 ghost use Rattle.narrower.specs.Choice.{chosen, choice_number};
 ghost use Rattle.capi.specs.Flat.{call_of};
 
-use crate::systems::{KifwalebOutcome, counted};
+use crate::systems::KifwalebOutcome;
 use narrower::internal::choose;
 use start_box::start_box;
 
@@ -18,8 +18,7 @@ pub extern "C" fn kifwaleb_start_box(
 ) -> KifwalebOutcome
     ensures { call_of result bounds.new ≡ start_box (system n b_matrix.now b.now) bounds.old }
 {
-    let o = start_box(n, b_matrix, b, bounds);
-    counted(o, 0)
+    start_box(n, b_matrix, b, bounds).into()
 }
 
 // Which of two boxes is the narrower one: C cannot be handed a slice back.
@@ -27,6 +26,5 @@ pub extern "C" fn kifwaleb_start_box(
 pub extern "C" fn kifwaleb_narrower(n: usize, first: &[i64], second: &[i64]) -> u64
     ensures { result ≡ choice_number (chosen n first.now second.now) }
 {
-    let c = choose(n, first, second);
-    c.number()
+    choose(n, first, second).number()
 }

@@ -4,7 +4,7 @@ ghost use Rattle.inputs.specs.System.{system};
 ghost use Rattle.half_rows.specs.Operations.{load, half_pass, narrowing, operate};
 ghost use Rattle.capi.specs.Flat.{call_of};
 
-use crate::systems::{KifwalebOutcome, counted};
+use crate::systems::KifwalebOutcome;
 use half_rows::{half_down, half_up, load, narrow};
 
 // A balance and a start box into a state.
@@ -19,8 +19,7 @@ pub extern "C" fn kifwaleb_half_load(
     ensures { call_of result state.new ≡
         operate (load (system n b_matrix.now b.now) bounds.now) state.old }
 {
-    let o = load(state, n, b_matrix, b, bounds);
-    counted(o, 0)
+    load(state, n, b_matrix, b, bounds).into()
 }
 
 // The half pass from vat 1 to n.
@@ -28,8 +27,7 @@ pub extern "C" fn kifwaleb_half_load(
 pub extern "C" fn kifwaleb_half_up(state: &mut [i64]) -> KifwalebOutcome
     ensures { call_of result state.new ≡ operate (half_pass false) state.old }
 {
-    let o = half_up(state);
-    counted(o, 0)
+    half_up(state).into()
 }
 
 // The half pass from vat n to 1.
@@ -37,8 +35,7 @@ pub extern "C" fn kifwaleb_half_up(state: &mut [i64]) -> KifwalebOutcome
 pub extern "C" fn kifwaleb_half_down(state: &mut [i64]) -> KifwalebOutcome
     ensures { call_of result state.new ≡ operate (half_pass true) state.old }
 {
-    let o = half_down(state);
-    counted(o, 0)
+    half_down(state).into()
 }
 
 // One vat narrowed by a weighed interval.
@@ -51,6 +48,5 @@ pub extern "C" fn kifwaleb_half_narrow(
 ) -> KifwalebOutcome
     ensures { call_of result state.new ≡ operate (narrowing vat (ends lo hi)) state.old }
 {
-    let o = narrow(state, vat, lo, hi);
-    counted(o, 0)
+    narrow(state, vat, lo, hi).into()
 }

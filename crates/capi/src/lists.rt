@@ -4,9 +4,9 @@ ghost use Rattle.transfers.specs.Listing.{listing, transfers_of};
 ghost use Rattle.transfers.specs.Call.{over_list, call_list};
 ghost use Rattle.capi.specs.Flat.{call_of};
 
-use crate::sweeps::flat;
-use crate::systems::{KifwalebOutcome, counted};
-use transfers::internal::calls::{eliminate_records, sweep_records, symmetric_records};
+use crate::systems::KifwalebOutcome;
+use sweep::internal::pass::Way;
+use transfers::internal::calls::{eliminate_records, swept_records};
 
 // Elimination from a list of transfers and b. A record is receiver, giver, lower and upper share: four numbers, as C has the struct in memory.
 #[unsafe(no_mangle)]
@@ -18,8 +18,7 @@ pub extern "C" fn kifwaleb_eliminate_transfers(
 ) -> KifwalebOutcome
     ensures { call_of result bounds.new ≡ over_list (listing n (transfers_of transfers.now) b.now) bounds.old }
 {
-    let o = eliminate_records(n, transfers, b, bounds);
-    counted(o, 0)
+    eliminate_records(n, transfers, b, bounds).into()
 }
 
 // The sweep call from a list of transfers and b.
@@ -34,8 +33,7 @@ pub extern "C" fn kifwaleb_sweep_transfers(
     ensures { call_of result bounds.new ≡
         call_list (listing n (transfers_of transfers.now) b.now) (sweep_call allowed) bounds.old }
 {
-    let s = sweep_records(n, transfers, b, bounds, allowed);
-    flat(s)
+    swept_records(n, Way::There, transfers, b, bounds, allowed).into()
 }
 
 // The sweep call there and back from a list of transfers and b.
@@ -50,6 +48,5 @@ pub extern "C" fn kifwaleb_symmetric_sweep_transfers(
     ensures { call_of result bounds.new ≡
         call_list (listing n (transfers_of transfers.now) b.now) (symmetric_call allowed) bounds.old }
 {
-    let s = symmetric_records(n, transfers, b, bounds, allowed);
-    flat(s)
+    swept_records(n, Way::ThereAndBack, transfers, b, bounds, allowed).into()
 }

@@ -4,8 +4,8 @@ ghost use Rattle.interval.specs.Answer.{answer_of, sum_answer, difference_answer
 ghost use Rattle.interval.specs.Interval.{ends};
 ghost use Rattle.capi.specs.Flat.{step_of};
 
-use interval::{Interval, Step};
-use outcome::Outcome;
+use interval::{Interval, StepRefusal};
+use outcome::{Ending, Outcome, number, place};
 
 // A step's answer for callers in C and Rust: document 01's number and place, and the interval's ends, which are 0 on a refusal.
 #[repr(C)]
@@ -20,26 +20,22 @@ pub struct KifwalebStep {
 fn returned(o: Outcome, v: Interval) -> KifwalebStep
     ensures { step_of result ≡ returned o 0 v }
 {
-    let number = o.number();
-    let place = o.place() as u64;
-    let lo = v.lo;
-    let hi = v.hi;
     KifwalebStep {
-        number,
-        place,
-        lo,
-        hi,
+        number: number(o),
+        place: place(o) as u64,
+        lo: v.lo,
+        hi: v.hi,
     }
 }
 
-fn flat(s: Step) -> KifwalebStep
-    ensures { step_of result ≡ answer_of s }
-{
-    match s {
-        Step::Value(v) => returned(Outcome::Done, v),
-        Step::BadOperand(operand) => returned(Outcome::Ends(operand), Interval::ZERO),
-        Step::ZeroDivisor => returned(Outcome::ContainsZero(0), Interval::ZERO),
-        Step::OutOfRange => returned(Outcome::OutOfRange(0), Interval::ZERO),
+impl From<Result<Interval, StepRefusal>> for KifwalebStep {
+    ghost from_gives = { λ r k. step_of k ≡ answer_of r };
+
+    fn from(r: Result<Interval, StepRefusal>) -> KifwalebStep {
+        match r {
+            Ok(v) => returned(Ok(Ending::Done), v),
+            Err(e) => returned(Err(e.into()), Interval::ZERO),
+        }
     }
 }
 
@@ -50,7 +46,7 @@ pub extern "C" fn kifwaleb_sum(a_lo: i64, a_hi: i64, b_lo: i64, b_hi: i64) -> Ki
 {
     let a = Interval { lo: a_lo, hi: a_hi };
     let b = Interval { lo: b_lo, hi: b_hi };
-    flat(a.sum(b))
+    a.sum(b).into()
 }
 
 #[unsafe(no_mangle)]
@@ -59,7 +55,7 @@ pub extern "C" fn kifwaleb_difference(a_lo: i64, a_hi: i64, b_lo: i64, b_hi: i64
 {
     let a = Interval { lo: a_lo, hi: a_hi };
     let b = Interval { lo: b_lo, hi: b_hi };
-    flat(a.difference(b))
+    a.difference(b).into()
 }
 
 #[unsafe(no_mangle)]
@@ -68,7 +64,7 @@ pub extern "C" fn kifwaleb_product(a_lo: i64, a_hi: i64, b_lo: i64, b_hi: i64) -
 {
     let a = Interval { lo: a_lo, hi: a_hi };
     let b = Interval { lo: b_lo, hi: b_hi };
-    flat(a.product(b))
+    a.product(b).into()
 }
 
 #[unsafe(no_mangle)]
@@ -77,5 +73,5 @@ pub extern "C" fn kifwaleb_quotient(a_lo: i64, a_hi: i64, b_lo: i64, b_hi: i64) 
 {
     let a = Interval { lo: a_lo, hi: a_hi };
     let b = Interval { lo: b_lo, hi: b_hi };
-    flat(a.quotient(b))
+    a.quotient(b).into()
 }

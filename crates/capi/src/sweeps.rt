@@ -1,19 +1,18 @@
 ghost use Rattle.std.specs.Prelude.{◌≡◌};
-ghost use Rattle.outcome.specs.Run.{returned};
 ghost use Rattle.inputs.specs.System.{system};
 ghost use Rattle.sweep.specs.Calls.{sweep_call, symmetric_call, call};
-ghost use Rattle.capi.specs.Flat.{call_of};
+ghost use Rattle.capi.specs.Flat.{call_of, Counts};
 
 use crate::systems::{KifwalebOutcome, counted};
 use sweep::{Swept, sweep, symmetric_sweep};
 
 // The answer of either sweep call.
-pub(crate) fn flat(s: Swept) -> KifwalebOutcome
-    ensures { call_of result s.count ≡ returned s.outcome s.count s.count }
-{
-    let outcome = s.outcome;
-    let count = s.count;
-    counted(outcome, count)
+impl From<Swept> for KifwalebOutcome {
+    ghost from_gives = { Counts };
+
+    fn from(s: Swept) -> KifwalebOutcome {
+        counted(s.outcome, s.count)
+    }
 }
 
 // The sweep call.
@@ -28,8 +27,7 @@ pub extern "C" fn kifwaleb_sweep(
     ensures { call_of result bounds.new ≡
         call (system n b_matrix.now b.now) (sweep_call allowed) bounds.old }
 {
-    let s = sweep(n, b_matrix, b, bounds, allowed);
-    flat(s)
+    sweep(n, b_matrix, b, bounds, allowed).into()
 }
 
 // The sweep call there and back.
@@ -44,6 +42,5 @@ pub extern "C" fn kifwaleb_symmetric_sweep(
     ensures { call_of result bounds.new ≡
         call (system n b_matrix.now b.now) (symmetric_call allowed) bounds.old }
 {
-    let s = symmetric_sweep(n, b_matrix, b, bounds, allowed);
-    flat(s)
+    symmetric_sweep(n, b_matrix, b, bounds, allowed).into()
 }

@@ -2,10 +2,10 @@ ghost use Rattle.std.specs.Prelude.{◌≡◌};
 ghost use Rattle.outcome.specs.Run.{returned};
 ghost use Rattle.inputs.specs.System.{system};
 ghost use Rattle.elimination.specs.Call.{over_A, over_B};
-ghost use Rattle.capi.specs.Flat.{call_of};
+ghost use Rattle.capi.specs.Flat.{call_of, Answers};
 
 use elimination::{eliminate, eliminate_balance};
-use outcome::Outcome;
+use outcome::{Ending, Outcome, Refusal, number, place};
 
 // A call's answer: document 01's number and place, and a count: of whole sweeps, of the bytes of a sheet, and 0 for an elimination and a start box.
 #[repr(C)]
@@ -19,13 +19,22 @@ pub struct KifwalebOutcome {
 pub(crate) fn counted(o: Outcome, count: usize) -> KifwalebOutcome
     ensures { call_of result count ≡ returned o count count }
 {
-    let number = o.number();
-    let place = o.place() as u64;
-    let count = count as u64;
     KifwalebOutcome {
-        number,
-        place,
-        count,
+        number: number(o),
+        place: place(o) as u64,
+        count: count as u64,
+    }
+}
+
+// The answer of a call without a count.
+impl From<Result<(), Refusal>> for KifwalebOutcome {
+    ghost from_gives = { Answers };
+
+    fn from(r: Result<(), Refusal>) -> KifwalebOutcome {
+        match r {
+            Ok(()) => counted(Ok(Ending::Done), 0),
+            Err(o) => counted(Err(o), 0),
+        }
     }
 }
 
@@ -39,8 +48,7 @@ pub extern "C" fn kifwaleb_eliminate(
 ) -> KifwalebOutcome
     ensures { call_of result bounds.new ≡ over_A (system n a.now f.now) bounds.old }
 {
-    let o = eliminate(n, a, f, bounds);
-    counted(o, 0)
+    eliminate(n, a, f, bounds).into()
 }
 
 // Elimination from B and b.
@@ -53,6 +61,5 @@ pub extern "C" fn kifwaleb_eliminate_balance(
 ) -> KifwalebOutcome
     ensures { call_of result bounds.new ≡ over_B (system n b_matrix.now b.now) bounds.old }
 {
-    let o = eliminate_balance(n, b_matrix, b, bounds);
-    counted(o, 0)
+    eliminate_balance(n, b_matrix, b, bounds).into()
 }

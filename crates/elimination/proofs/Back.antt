@@ -1,27 +1,32 @@
 -- One unknown of the back-substitution, and one turn of its loop.
 use mathlib.Core.Path.{◌≡◌, refl, sym, ap, ap₂, ◌∙◌}
-use mathlib.Core.Bool.{Bool, true, false, cond, ◌&&◌}
+use mathlib.Core.Bool.{Bool, true, false, cond}
 use mathlib.Core.List.{List}
 use Prim.Native.Nat.{ℕ, suc, ◌+◌, ◌-◌, ◌*◌, ◌≤◌, ◌<◌}
 use native.Mathlib.Nat.{add_assoc}
 use native.Mathlib.Omega.{arith}
 use lib.IntN.{ℤ}
-use Rattle.outcome.specs.declared.Outcome.TheVariants as outcome
+use Rattle.outcome.specs.declared.Refusal.TheVariants as refusal
 use Rattle.interval.specs.declared.Interval.{Interval}
-use Rattle.interval.specs.Interval.{acceptable, contains_zero, in_range, exact_difference}
+use Rattle.interval.specs.Interval.{acceptable, contains_zero, in_range, exact_difference, quotient}
 use Rattle.interval.specs.Code.{Representable}
 use Rattle.interval.proofs.Range.{accept}
-use Rattle.inputs.specs.Place.{at, put, cell}
+use Rattle.inputs.specs.Place.{at, cell}
 use Rattle.inputs.specs.Code.{Sound}
 use Rattle.inputs.proofs.Place.{at_put_other, cell_before}
 use Rattle.rows.specs.Sum.{once}
 use Rattle.rows.proofs.Size.{Small, acceptable_small, difference_small, small_fits}
 use Rattle.rows.proofs.Sum.{once_small}
-use Rattle.outcome.specs.Run.{Run, refused, done}
+use Rattle.std.specs.Prelude.{Result, Ok, Err}
+use Rattle.outcome.specs.declared.Refusal.{Refusal}
+use Rattle.outcome.specs.Run.{Run, refused, done, and_then, run_of}
 use Rattle.forward.specs.Run.{in_range_then, rhs}
 use Rattle.elimination.specs.Back.{numerator, back}
-use Rattle.forward.specs.Code.{Working, Pivots, Placed}
-use Rattle.elimination.specs.Code.{unknown, Solved}
+use Rattle.forward.specs.Code.{Working, Pivots, Placed, Ran}
+use Rattle.outcome.proofs.Run.{done_same}
+use Rattle.forward.proofs.Run.{ranged}
+use Rattle.forward.proofs.Step.{Turned, turned, placed_ran}
+use Rattle.elimination.specs.Code.{unknown}
 
 module _ (n i : ℕ) (t : List ℤ) where
   -- the code counts its positions from those of a(i,i) and f(i)
@@ -42,32 +47,20 @@ module _ (n i : ℕ) (t : List ℤ) where
     numerator_accepted e = accept _ numerator_small.order e
 
   -- a row whose first test held, and one whose first test did not
-  pub solved_placed : (x : Interval) (r : Bool) (t' : List ℤ) → in_range (numerator once n i t) ≡ true → x ≡ unknown n i t → Placed x (rhs n i) t r t' → Solved n i t r t'
-  solved_placed x r t' e f p =
-      record { flag = rw (e, ← f) p.flag; list = rw (p.flag, ← f) p.list; sound = p.sound }
+  pub unknown_placed : (x : Interval) {r : Result (Unit {0}) Refusal} {t' : List ℤ} → in_range (numerator once n i t) ≡ true → x ≡ quotient (numerator once n i t) (at t (cell n i i)) → Placed tt (i + 1) x (rhs n i) t r t' → Ran (unknown n i t) r t'
+  unfolding unknown in_range_then
+  unknown_placed x e f p = rw e (placed_ran (rw f at p))
 
-  pub solved_not : Sound t → in_range (numerator once n i t) ≡ false → Solved n i t false t
-  solved_not s e = record { flag = rw e; list = refl; sound = s }
+  pub unknown_not : Sound t → in_range (numerator once n i t) ≡ false → Ran (unknown n i t) (Err (refusal.OutOfRange (i + 1))) t
+  unfolding unknown in_range_then
+  unknown_not s e = record { is = rw e; sound = s }
 
 -- one test after another
-twice : {A : Type 0} (a b : Bool) (x o : A) → cond a (cond b x o) o ≡ cond (a && b) x o
-twice true b x o = refl
-twice false b x o = refl
-
--- a test hands on the list that it decides on
-handed : (f : List ℤ → Run (List ℤ)) (b : Bool) (u t t' : List ℤ) (o : Run (List ℤ)) → t' ≡ cond b u t → cond b (f u) o ≡ cond b (f t') o
-handed f true u t t' o e = ap f (sym e)
-handed f false u t t' o e = refl
-
--- a row of the definition, as the code leaves it
-back_step : (n i : ℕ) (t : List ℤ) (r : Bool) (t' : List ℤ) → Solved n i t r t' → back once n (suc i) t ≡ cond r (back once n i t') (refused (outcome.OutOfRange (i + 1)))
-unfolding back in_range_then unknown
-back_step n i t r t' s =
-    let on = back once n i (put t (rhs n i) (unknown n i t)) in
-    let out = refused (outcome.OutOfRange (i + 1)) in
-    twice (in_range (numerator once n i t)) (in_range (unknown n i t)) on out ∙
-    ap (λ b. cond b on out) (sym s.flag) ∙
-    handed (back once n i) r _ t t' out s.list
+both : (a b : Bool) (t : List ℤ) (o : Refusal) (f : List ℤ → Run (List ℤ)) → cond a (cond b (f t) (refused o)) (refused o) ≡ and_then (cond a (cond b (done t) (refused o)) (refused o)) f
+unfolding and_then
+both true true t o f = refl
+both true false t o f = refl
+both false b t o f = refl
 
 -- the loop counts down: i is one more than the row
 module _ (n i : ℕ) (t : List ℤ) where
@@ -75,21 +68,17 @@ module _ (n i : ℕ) (t : List ℤ) where
   unfolding back
   back_end h = let e : i ≡ 0 = omega arith in rw e
 
-  module _ (h : 0 < i) (r : Bool) (t' : List ℤ) (s : Solved n (i - 1) t r t') where
-    back_turn : back once n i t ≡ cond r (back once n (i - 1) t') (refused (outcome.OutOfRange (i - 1 + 1)))
-    back_turn = let e : i ≡ suc (i - 1) = omega arith in ap (λ k. back once n k t) e ∙ back_step n (i - 1) t r t' s
-
-    pub back_go : r ≡ true → back once n i t ≡ back once n (i - 1) t'
-    back_go e = back_turn ∙ rw e
-
-    pub back_out : r ≡ false → back once n i t ≡ refused (outcome.OutOfRange (i - 1 + 1))
-    back_out e = back_turn ∙ rw e
+  pub back_turn : {r : Result (Unit {0}) Refusal} {t' : List ℤ} → 0 < i → Ran (unknown n (i - 1) t) r t' → Turned (back once n i t) r t' (back once n (i - 1))
+  unfolding back unknown in_range_then
+  back_turn h p =
+      let e : i ≡ suc (i - 1) = omega arith in
+      let v = numerator once n (i - 1) t in
+      turned (ap (λ k. back once n k t) e ∙ both (in_range v) (in_range (quotient v (at t (cell n (i - 1) (i - 1))))) _ _ (back once n (i - 1)) ∙ ap (λ r. and_then r (back once n (i - 1))) (sym p.is))
 
 -- x(i) stands after all the pivots
-pub pivots_solved : {n i : ℕ} {t t' : List ℤ} {r : Bool} → Pivots n t → Solved n i t r t' → Pivots n t'
-pivots_solved {n} {i} {t} {t'} {r} p s =
-    record { each = λ k h. ap contains_zero (ap (λ l. at l (cell n k k)) s.list ∙ kept r (cell n k k) (cell_before n k k h h)) ∙ p.each k h }
-  where
-    kept : (b : Bool) (q : ℕ) → q < n * n → at (cond b (put t (rhs n i) (unknown n i t)) t) q ≡ at t q
-    kept true q h = at_put_other t (rhs n i) q _ (omega arith)
-    kept false q h = refl
+pub pivots_solved : (n i : ℕ) (t : List ℤ) {t' : List ℤ} {r : Result (Unit {0}) Refusal} → Pivots n t → Ran (unknown n i t) r t' → r ≡ Ok tt → Pivots n t'
+unfolding unknown
+pivots_solved n i t {t'} p s e =
+    let d : unknown n i t ≡ done t' = sym s.is ∙ ap (λ r. run_of r t') e in
+    let w = done_same (ranged _ _ _ t' (ranged _ _ _ t' d).rest).rest in
+    record { each = λ k h. ap contains_zero (ap (λ l. at l (cell n k k)) (sym w) ∙ at_put_other t (rhs n i) (cell n k k) _ (omega (arith, cell_before n k k h h))) ∙ p.each k h }

@@ -7,13 +7,13 @@ use Prim.Native.Nat.{ℕ, zero, suc, ◌+◌, ◌-◌, ◌<◌}
 use native.Mathlib.Omega.{arith}
 use lib.IntN.{ℤ, pos}
 use lib.ListN.{length, set}
-use Rattle.outcome.specs.declared.Outcome.TheVariants as outcome
+use Rattle.outcome.specs.declared.Refusal.TheVariants as refusal
 use Rattle.outcome.specs.Table.{number_and_place}
 use Rattle.outcome.specs.Run.{Run, refused, done, and_then, ended, written}
 use Rattle.outcome.proofs.Run.{Refuses}
 use Rattle.interval.specs.Interval.{contains_zero}
-use Rattle.inputs.specs.declared.Test.{Test}
-use Rattle.inputs.specs.declared.Test.TheVariants.{Pass, Fail}
+use Rattle.inputs.specs.Tests.{Test}
+use Rattle.std.specs.Prelude.{Ok, Err}
 use Rattle.inputs.specs.Place.{at, cell}
 use Rattle.inputs.specs.Tests.{tested}
 use Rattle.inputs.specs.System.{tests}
@@ -27,7 +27,7 @@ use Rattle.elimination.specs.Call.{copied, box, none_taken, solved, run_A, run_B
 use Rattle.elimination.specs.Claim.{SameUnlessFive}
 
 abbrev Other : {A : Type 0} → Run A → Type 0
-Other r = Refuses (λ o. (number_and_place o).number ≢ 5) r
+Other r = Refuses (λ o. (number_and_place (Err o)).number ≢ 5) r
 
 -- what goes on alike ends alike
 alike : {A B : Type 0} (r : Run A) (f g : A → Run B) → ((a : A) → Other (g a) → f a ≡ g a) → Other (and_then r g) → and_then r f ≡ and_then r g
@@ -46,7 +46,7 @@ module _ (n k : ℕ) (s : Table) where
   unfolding taking in_place and_then
   apart = go (contains_zero (at s.numbers (cell n k k)))
     where
-      go : (z : Bool) → Other (and_then (cond z (refused (outcome.ContainsZero (k + 1))) (done k)) (λ i. done (table (swapped n k i s.numbers) (set s.taken k (pos i))))) → z ≡ false
+      go : (z : Bool) → Other (and_then (cond z (refused (refusal.ContainsZero (k + 1))) (done k)) (λ i. done (table (swapped n k i s.numbers) (set s.taken k (pos i))))) → z ≡ false
       go true u = absurd (u.where_refused refl)
       go false u = refl
 
@@ -72,8 +72,8 @@ solved_same sum n t u =
 
 tested_same : (t : Test) (f g : Run (List ℤ)) → (Other g → f ≡ g) → Other (tested t g) → tested t f ≡ tested t g
 unfolding tested
-tested_same Pass f g h u = h u
-tested_same (Fail o) f g h u = refl
+tested_same (Ok _) f g h u = h u
+tested_same (Err o) f g h u = refl
 
 -- a call whose number is not 5
 other_call : (r : Run (List ℤ)) (x : List ℤ) → (ended written x r).number ≢ 5 → Other r

@@ -2,7 +2,7 @@
 use Rattle.std.specs.Prelude.{◌≡◌, true, ◌↔◌, ◌≢◌, List, ℕ, ◌+◌, ◌≤◌, ◌<◌, ℤ, length}
 use Rattle.outcome.specs.Run.{done, Returned}
 use Rattle.interval.specs.Interval.{contains_zero}
-use Rattle.inputs.specs.declared.Test.TheVariants.{Pass}
+use Rattle.std.specs.Prelude.{Ok}
 use Rattle.inputs.specs.Place.{at, cell}
 use Rattle.inputs.specs.System.{System, tests}
 use Rattle.rows.specs.Sum.{RowSum}
@@ -33,10 +33,10 @@ Five r k = (r.number ≡ 5) × (r.place ≡ k + 1)
 pub record FiveExactly : Type 0 where
   pub from_A :
       (sum : RowSum) (s : System) (box : List ℤ) (k : ℕ)
-      → Five (ended_A lowest_row sum s box) k ↔ ((tests s (length box) ≡ Pass) × NoRow s.size k (copied s))
+      → Five (ended_A lowest_row sum s box) k ↔ ((tests s (length box) ≡ Ok tt) × NoRow s.size k (copied s))
   pub from_B :
       (sum : RowSum) (s : System) (box : List ℤ) (k : ℕ)
-      → Five (ended_B lowest_row sum s box) k ↔ ((tests s (length box) ≡ Pass) × NoRowOfB s k)
+      → Five (ended_B lowest_row sum s box) k ↔ ((tests s (length box) ≡ Ok tt) × NoRowOfB s k)
 
 -- ---- 'A balance accepted before gets the same box': all is as before, unless 5 was said before
 pub record SameUnlessFive : Type 0 where

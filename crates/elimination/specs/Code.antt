@@ -1,18 +1,13 @@
 -- What the functions beneath the two calls promise each other.
-use Rattle.std.specs.Prelude.{◌≡◌, Bool, cond, ◌&&◌, List, ℕ, ℤ}
-use Rattle.interval.specs.declared.Interval.{Interval}
-use Rattle.interval.specs.Interval.{in_range, quotient}
+use Rattle.std.specs.Prelude.{List, ℕ, ◌+◌, ℤ}
+use Rattle.interval.specs.Interval.{quotient}
 use Rattle.inputs.specs.Place.{at, put, cell}
-use Rattle.inputs.specs.Code.{Sound}
+use Rattle.outcome.specs.Run.{Run, done}
 use Rattle.rows.specs.Sum.{once}
-use Rattle.forward.specs.Run.{rhs}
+use Rattle.forward.specs.Run.{in_range_then, rhs}
 use Rattle.elimination.specs.Back.{numerator}
 
--- x(i) stands in the place of f(i), if its numerator and it are in the range
-unfoldable pub unknown : (n i : ℕ) → List ℤ → Interval
-unknown n i t = quotient (numerator once n i t) (at t (cell n i i))
-
-pub record Solved (n i : ℕ) (before : List ℤ) (r : Bool) (after : List ℤ) : Type 0 where
-  pub flag : r ≡ (in_range (numerator once n i before) && in_range (unknown n i before))
-  pub list : after ≡ cond r (put before (rhs n i) (unknown n i before)) before
-  pub sound : Sound after
+-- x(i) in the place of f(i), if its numerator and it are in the range: one row of the back-substitution
+unfoldable pub unknown : (n i : ℕ) → List ℤ → Run (List ℤ)
+unknown n i t =
+    in_range_then (i + 1) (numerator once n i t) (λ v. in_range_then (i + 1) (quotient v (at t (cell n i i))) (λ w. done (put t (rhs n i) w)))

@@ -1,40 +1,28 @@
 -- One turn of each of the loops over k, i and j; what is left of a loop that runs to n is n − its index.
-use mathlib.Core.Path.{◌≡◌, refl, sym, ap, ◌∙◌}
-use mathlib.Core.Bool.{Bool, true, false}
+use mathlib.Core.Path.{◌≡◌, sym, ap, ◌∙◌}
+use mathlib.Core.Bool.{true, false}
 use mathlib.Core.List.{List}
 use Prim.Native.Nat.{ℕ, ◌+◌, ◌-◌, ◌≤◌, ◌<◌}
 use native.Mathlib.Omega.{arith}
 use native.Mathlib.Nat.{sub-zero}
 use lib.IntN.{ℤ, pos}
 use lib.ListN.{set}
-use Rattle.outcome.specs.declared.Outcome.{Outcome}
-use Rattle.outcome.specs.declared.Outcome.TheVariants as outcome
+use Rattle.outcome.specs.declared.Refusal.{Refusal}
 use Rattle.interval.specs.declared.Interval.{Interval}
-use Rattle.interval.specs.Interval.{acceptable, contains_zero, in_range, quotient}
-use Rattle.inputs.specs.Place.{at, put, cell}
+use Rattle.interval.specs.Interval.{acceptable, contains_zero, quotient}
+use Rattle.inputs.specs.Place.{at, cell}
 use Rattle.inputs.specs.Code.{Sound}
-use Rattle.forward.specs.declared.internal.Usable.{Usable}
-use Rattle.forward.specs.declared.internal.Usable.TheVariants.{Yes, No}
+use Rattle.std.specs.Prelude.{Result, Ok, Err, IsErrAnd}
 use Rattle.outcome.specs.Run.{Run, refused, done, and_then}
-use Rattle.forward.specs.Run.{in_range_then, rhs}
-use Rattle.forward.specs.declared.internal.Chosen.{Chosen}
-use Rattle.forward.specs.declared.internal.Chosen.TheVariants.{Row, None}
+use Rattle.outcome.proofs.Run.{carried}
+use Rattle.forward.specs.Run.{rhs}
 use Rattle.forward.specs.Pivot.{lowest_row, swapped}
 use Rattle.forward.specs.Forward.{Table, table, taking, reduced, columns, right_side, rows, pivots, forward}
-use Rattle.forward.specs.Code.{Working, Placed, usable, Kept, row_of, taking_of, Took}
+use Rattle.forward.specs.Code.{Working, Placed, Ran, row_of, taking_of, Took}
 use Rattle.forward.proofs.Value.{quotient_accepted}
-use Rattle.forward.proofs.Step.{turn}
+use Rattle.forward.proofs.Step.{turn, not_err, placed_go, placed_stop, placed_turn, placed_ran, Turned, turned}
 use Rattle.forward.proofs.Pivot.{Serves, serves}
 use Rattle.forward.proofs.Swap.{rows_swapped, swapped_working}
-
--- ---- an interval that is usable, and none
-usable_yes : (b : Bool) (v w : Interval) → usable b v ≡ Yes w → (b ≡ true) × (w ≡ v)
-usable_yes true v w e = (refl, cc)
-usable_yes false v w e = let z : ◌≡◌ {A = ℕ} 0 1 = cc in absurd (omega arith)
-
-usable_no : (b : Bool) (v : Interval) → usable b v ≡ No → b ≡ false
-usable_no true v e = let z : ◌≡◌ {A = ℕ} 0 1 = cc in absurd (omega arith)
-usable_no false v e = refl
 
 -- ---- the columns
 module _ (n k i : ℕ) (m : Interval) (j : ℕ) (t : List ℤ) where
@@ -42,14 +30,15 @@ module _ (n k i : ℕ) (m : Interval) (j : ℕ) (t : List ℤ) where
   unfolding columns
   columns_end h = let e : n - j ≡ 0 = omega arith in rw e
 
-  module _ {r : Bool} {t' : List ℤ} (h : j < n) (p : Placed (reduced t (cell n i j) m (cell n k j)) (cell n i j) t r t') where
-    pub columns_go : r ≡ true → columns n k i m (n - j) j t ≡ columns n k i m (n - (j + 1)) (j + 1) t'
-    unfolding columns in_range_then
-    columns_go e = rw (turn n j h, p.list, sym p.flag ∙ e)
+  pub columns_turn : {r : Result (Unit {0}) Refusal} {t' : List ℤ} → j < n → Placed tt (i + 1) (reduced t (cell n i j) m (cell n k j)) (cell n i j) t r t' →
+      Turned (columns n k i m (n - j) j t) r t' (λ t'. columns n k i m (n - (j + 1)) (j + 1) t')
+  unfolding columns
+  columns_turn h p = turned (rw (turn n j h) (placed_turn p _))
 
-    pub columns_out : r ≡ false → columns n k i m (n - j) j t ≡ refused (outcome.OutOfRange (i + 1))
-    unfolding columns in_range_then
-    columns_out e = rw (turn n j h, sym p.flag ∙ e)
+-- ---- the right side
+pub right_side_ran : (n k i : ℕ) (m : Interval) (t : List ℤ) {r : Result (Unit {0}) Refusal} {t' : List ℤ} → Placed tt (i + 1) (reduced t (rhs n i) m (rhs n k)) (rhs n i) t r t' → Ran (right_side n k i m t) r t'
+unfolding right_side
+right_side_ran n k i m t p = placed_ran p
 
 -- ---- the rows
 module _ (n k : ℕ) (p : Interval) (i : ℕ) (t : List ℤ) where
@@ -57,62 +46,54 @@ module _ (n k : ℕ) (p : Interval) (i : ℕ) (t : List ℤ) where
   unfolding rows
   rows_end h = let e : n - i ≡ 0 = omega arith in rw e
 
-  module _ {u : Usable} {t₁ : List ℤ} (h : i < n) (q : Kept (quotient (at t (cell n i k)) p) (cell n i k) t u t₁) where
-    pub rows_no : u ≡ No → rows n k p (n - i) i t ≡ refused (outcome.OutOfRange (i + 1))
-    unfolding rows in_range_then
-    rows_no e = let v = quotient (at t (cell n i k)) p in rw (turn n i h, usable_no (in_range v) v (sym q.answer ∙ e))
+  module _ {u : Result Interval Refusal} {t₁ : List ℤ} (h : i < n) (q : let v = quotient (at t (cell n i k)) p in Placed v (i + 1) v (cell n i k) t u t₁) where
+    -- what a row does after its factor
+    abbrev after : Interval → List ℤ → Run (List ℤ)
+    after m t = and_then (columns n k i m (n - (k + 1)) (k + 1) t) (λ t₂. and_then (right_side n k i m t₂) (λ t₃. rows n k p (n - (i + 1)) (i + 1) t₃))
 
-    module _ {m : Interval} (e : u ≡ Yes m) where
-      -- the factor is the quotient, in the range, and the list has it
-      factored : (in_range (quotient (at t (cell n i k)) p) ≡ true) × (m ≡ quotient (at t (cell n i k)) p)
-      factored = let v = quotient (at t (cell n i k)) p in usable_yes (in_range v) v m (sym q.answer ∙ e)
+    pub rows_no : {o : Refusal} → u ≡ Err o → rows n k p (n - i) i t ≡ refused o
+    unfolding rows and_then
+    rows_no e = rw (turn n i h) (placed_stop q after e)
 
-      stored : t₁ ≡ put t (cell n i k) (quotient (at t (cell n i k)) p)
-      stored = q.list ∙ rw factored.0
+    module _ {m : Interval} (e : u ≡ Ok m) where
+      factored : rows n k p (n - i) i t ≡ after m t₁
+      unfolding rows and_then
+      factored = let g = placed_go q after e in rw (turn n i h, g.0) g.2
 
-      pub rows_stop : {o : Outcome} → columns n k i m (n - (k + 1)) (k + 1) t₁ ≡ refused o → rows n k p (n - i) i t ≡ refused o
-      unfolding rows in_range_then and_then
-      rows_stop f = rw (turn n i h, factored.0, rw (factored.1, stored) at f)
+      pub rows_stop : {o : Refusal} → columns n k i m (n - (k + 1)) (k + 1) t₁ ≡ refused o → rows n k p (n - i) i t ≡ refused o
+      unfolding and_then
+      rows_stop f = rw f at factored
 
-      module _ {t₂ t₃ : List ℤ} {r : Bool} (f : columns n k i m (n - (k + 1)) (k + 1) t₁ ≡ done t₂) (g : Placed (reduced t₂ (rhs n i) m (rhs n k)) (rhs n i) t₂ r t₃) where
-        pub rows_out : r ≡ false → rows n k p (n - i) i t ≡ refused (outcome.OutOfRange (i + 1))
-        unfolding rows in_range_then and_then right_side
-        rows_out b = rw (turn n i h, factored.0, rw (factored.1, stored) at f, rw factored.1 at (sym g.flag ∙ b))
-
-        pub rows_go : r ≡ true → rows n k p (n - i) i t ≡ rows n k p (n - (i + 1)) (i + 1) t₃
-        unfolding rows in_range_then and_then right_side
-        rows_go b =
-            let r' = sym g.flag ∙ b in
-            let l : t₃ ≡ put t₂ (rhs n i) (reduced t₂ (rhs n i) m (rhs n k)) = g.list ∙ rw r' in
-            rw (turn n i h, factored.0, rw (factored.1, stored) at f, rw factored.1 at r') (ap (λ l. rows n k p (n - (i + 1)) (i + 1) l) (sym (rw factored.1 at l)))
+      pub rows_turn : {t₂ t₃ : List ℤ} {r : Result (Unit {0}) Refusal} → columns n k i m (n - (k + 1)) (k + 1) t₁ ≡ done t₂ → Ran (right_side n k i m t₂) r t₃ →
+          Turned (rows n k p (n - i) i t) r t₃ (λ t₃. rows n k p (n - (i + 1)) (i + 1) t₃)
+      unfolding and_then
+      rows_turn f g = turned (rw (f, ← g.is) at factored)
 
 -- the factor that a row goes on with is an interval
-pub factor_accepted : (n k i : ℕ) (p : Interval) (t t₁ : List ℤ) (u : Usable) (m : Interval) → Kept (quotient (at t (cell n i k)) p) (cell n i k) t u t₁ → u ≡ Yes m
+pub factor_accepted : (n k i : ℕ) (p : Interval) (t t₁ : List ℤ) (u : Result Interval Refusal) (m : Interval) → (let v = quotient (at t (cell n i k)) p in Placed v (i + 1) v (cell n i k) t u t₁) → u ≡ Ok m
     → acceptable (at t (cell n i k)) ≡ true → acceptable p ≡ true → contains_zero p ≡ false → acceptable m ≡ true
-factor_accepted n k i p t t₁ u m q e a b z =
-    let v = quotient (at t (cell n i k)) p in
-    let f = usable_yes (in_range v) v m (sym q.answer ∙ e) in
-    rw f.1 (quotient_accepted _ p a b z f.0)
+factor_accepted n k i p t t₁ u m q e a b z = let g = placed_go q (λ v t. done t) e in rw g.0 (quotient_accepted _ p a b z g.1)
 
 -- ---- step k takes its row
 module _ (n k : ℕ) (s : Table) where
-  pub took_none : {r : Chosen} → Sound s.numbers → row_of k r ≡ lowest_row n k s.numbers → r ≡ None → Took n k s No s
+  pub took_none : {r : Result ℕ Refusal} {u : Result Interval Refusal} {o : Refusal} → Sound s.numbers → row_of r ≡ lowest_row n k s.numbers → r ≡ Err o → IsErrAnd u (λ p. p ≡ o) → Took n k s u s
   unfolding taking and_then
-  took_none w e f =
+  took_none w e f h =
+      let c = carried _ _ h in
       record {
-        is = rw (sym e ∙ ap (row_of k) f);
-        pivot = λ p g. let z : ◌≡◌ {A = ℕ} 0 1 = cc in absurd (omega arith);
+        is = rw (c, sym e ∙ ap row_of f);
+        pivot = λ p g. absurd (not_err (sym g ∙ c));
         sound = w;
       }
 
-  module _ {r : Chosen} {i : ℕ} (h : k < n) (w : Working n s.numbers) (e : row_of k r ≡ lowest_row n k s.numbers) (f : r ≡ Row i) where
+  module _ {r : Result ℕ Refusal} {i : ℕ} (h : k < n) (w : Working n s.numbers) (e : row_of r ≡ lowest_row n k s.numbers) (f : r ≡ Ok i) where
     chosen : lowest_row n k s.numbers ≡ done i
-    chosen = sym e ∙ ap (row_of k) f
+    chosen = sym e ∙ ap row_of f
 
     pub row_serves : Serves n k i s.numbers
     row_serves = serves n k s.numbers i h chosen
 
-    pub took_row : {t₁ r₁ : List ℤ} {p : Interval} → t₁ ≡ swapped n k i s.numbers → r₁ ≡ set s.taken k (pos i) → p ≡ at t₁ (cell n k k) → Took n k s (Yes p) (table t₁ r₁)
+    pub took_row : {t₁ r₁ : List ℤ} {p : Interval} → t₁ ≡ swapped n k i s.numbers → r₁ ≡ set s.taken k (pos i) → p ≡ at t₁ (cell n k k) → Took n k s (Ok p) (table t₁ r₁)
     unfolding taking and_then
     took_row {t₁} {r₁} {p} a b c =
         let m = rows_swapped n k i row_serves.below s.numbers w.room row_serves.from in
@@ -128,16 +109,16 @@ module _ (n k : ℕ) (s : Table) where
   unfolding pivots
   pivots_end h = let e : n - k ≡ 0 = omega arith in rw e
 
-  module _ {u : Usable} {s₁ : Table} (h : k < n) (q : Took n k s u s₁) where
-    pub pivots_no : u ≡ No → pivots lowest_row n (n - k) k s ≡ refused (outcome.ContainsZero (k + 1))
+  module _ {u : Result Interval Refusal} {s₁ : Table} (h : k < n) (q : Took n k s u s₁) where
+    pub pivots_no : {o : Refusal} → u ≡ Err o → pivots lowest_row n (n - k) k s ≡ refused o
     unfolding pivots and_then
-    pivots_no e = rw (turn n k h, sym q.is ∙ ap (λ u. taking_of k u s₁) e)
+    pivots_no e = rw (turn n k h, sym q.is ∙ ap (λ u. taking_of u s₁) e)
 
-    module _ {p : Interval} (e : u ≡ Yes p) where
+    module _ {p : Interval} (e : u ≡ Ok p) where
       took : taking lowest_row n k s ≡ done s₁
-      took = sym q.is ∙ ap (λ u. taking_of k u s₁) e
+      took = sym q.is ∙ ap (λ u. taking_of u s₁) e
 
-      pub pivots_stop : {o : Outcome} → rows n k p (n - (k + 1)) (k + 1) s₁.numbers ≡ refused o → pivots lowest_row n (n - k) k s ≡ refused o
+      pub pivots_stop : {o : Refusal} → rows n k p (n - (k + 1)) (k + 1) s₁.numbers ≡ refused o → pivots lowest_row n (n - k) k s ≡ refused o
       unfolding pivots and_then
       pivots_stop f = rw (turn n k h, took, rw (q.pivot p e).0 at f)
 

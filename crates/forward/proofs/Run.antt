@@ -5,7 +5,7 @@ use mathlib.Core.List.{List}
 use Prim.Native.Nat.{ℕ, suc, ◌+◌, ◌-◌}
 use lib.IntN.{ℤ, pos}
 use lib.ListN.{set}
-use Rattle.outcome.specs.declared.Outcome.TheVariants as outcome
+use Rattle.outcome.specs.declared.Refusal.TheVariants as refusal
 use Rattle.interval.specs.declared.Interval.{Interval}
 use Rattle.interval.specs.Interval.{in_range}
 use Rattle.inputs.specs.Place.{at, cell}
@@ -23,7 +23,7 @@ pub ranged : (row : ℕ) (v : Interval) (f : Interval → Run (List ℤ)) (t : L
 unfolding in_range_then
 ranged row v f t = go (in_range v) refl
   where
-    go : (b : Bool) → in_range v ≡ b → cond b (f v) (refused (outcome.OutOfRange row)) ≡ done t → Ranged v f t
+    go : (b : Bool) → in_range v ≡ b → cond b (f v) (refused (refusal.OutOfRange row)) ≡ done t → Ranged v f t
     go true p e = record { in_range_lem = p; rest = e }
     go false p e = never e
 

@@ -1,7 +1,7 @@
 -- Document 02, A1: 'At step k, pivot n included, take the lowest-numbered row from k on whose entry in column k does not contain 0, and
 -- swap it with row k.'
 use Rattle.std.specs.Prelude.{cond, List, ℕ, zero, suc, ◌+◌, ◌-◌, ℤ}
-use Rattle.outcome.specs.declared.Outcome.TheVariants as outcome
+use Rattle.outcome.specs.declared.Refusal.TheVariants as refusal
 use Rattle.outcome.specs.Run.{Run, refused, done}
 use Rattle.interval.specs.Interval.{contains_zero}
 use Rattle.inputs.specs.Place.{at, put, cell}
@@ -13,7 +13,7 @@ Pivoting = (n k : ℕ) → List ℤ → Run ℕ
 
 -- 'Refusal 5 is now given exactly if no such row exists': of the rows i, i + 1, .., d of them
 unfoldable pub lowest_from : (n k : ℕ) → (d i : ℕ) → List ℤ → Run ℕ
-lowest_from n k zero i t = refused (outcome.ContainsZero (k + 1))
+lowest_from n k zero i t = refused (refusal.ContainsZero (k + 1))
 lowest_from n k (suc d) i t = cond (contains_zero (at t (cell n i k))) (lowest_from n k d (i + 1) t) (done i)
 
 unfoldable pub lowest_row : Pivoting
@@ -21,7 +21,7 @@ lowest_row n k t = lowest_from n k (n - k) k t
 
 -- the former calculation, document 01, Elimination: 'pivot (k, k) must not contain 0', and no row is looked for
 unfoldable pub in_place : Pivoting
-in_place n k t = cond (contains_zero (at t (cell n k k))) (refused (outcome.ContainsZero (k + 1))) (done k)
+in_place n k t = cond (contains_zero (at t (cell n k k))) (refused (refusal.ContainsZero (k + 1))) (done k)
 
 -- the intervals at p and q change places
 unfoldable pub exchanged : (p q : ℕ) → List ℤ → List ℤ

@@ -11,15 +11,15 @@ use lib.ListN.{length}
 use lib.Signed.{◌≤ℤ◌}
 use Rattle.integer.proofs.Order.{trans}
 use Rattle.integer.proofs.Extremes.{le_max_right}
-use Rattle.outcome.specs.declared.Outcome.{Outcome}
-use Rattle.outcome.specs.declared.Outcome.TheVariants as outcome
+use Rattle.std.specs.Prelude.{Option, Some, None, Result, is_ok, Ok, Err}
+use Rattle.std.specs.Option.{ok_or}
+use Rattle.outcome.specs.declared.Refusal.{Refusal}
+use Rattle.outcome.specs.declared.Refusal.TheVariants as refusal
 use Rattle.outcome.specs.Run.{Run, refused, done}
 use Rattle.interval.specs.declared.Interval.{Interval}
 use Rattle.interval.specs.Interval.{acceptable, intersection, is_empty}
-use Rattle.inputs.specs.declared.Test.{Test}
-use Rattle.inputs.specs.declared.Test.TheVariants.{Pass, Fail}
 use Rattle.inputs.specs.Place.{at, put}
-use Rattle.inputs.specs.Tests.{both, proper}
+use Rattle.inputs.specs.Tests.{Test, proper}
 use Rattle.inputs.specs.System.{System, system}
 use Rattle.inputs.proofs.Place.{length_put, sound_put, at_put_same, at_put_other}
 use Rattle.wide_sum.specs.declared.WideInterval.{WideInterval}
@@ -30,10 +30,8 @@ use Rattle.kept_sums.specs.Kept.{sum_at, put_sum, sum_ready}
 use Rattle.kept_sums.proofs.Kept.{length_put_sum}
 use Rattle.sweep.specs.Pass.{up, down}
 use Rattle.sweep.proofs.Pass.{intersection_accepted}
-use Rattle.half_rows.specs.declared.internal.row.RowStep.{RowStep}
-use Rattle.half_rows.specs.declared.internal.row.RowStep.TheVariants.{NoState, Next}
 use Rattle.half_rows.specs.Rows.{Worked, worked, of_state, beside, half_row, side, joined, components, half_along}
-use Rattle.half_rows.specs.Code.{Shaped, passes, Stepped, tested_pass, turn}
+use Rattle.half_rows.specs.Code.{Boxed, Stepped, turn}
 
 -- ---- the components from turn k on
 unfoldable pub rest : (back : Bool) → (n k : ℕ) → List ℕ
@@ -59,19 +57,23 @@ turn_below true n k h = omega arith
 turn_below false n k h = h
 
 -- ---- numbers that no operation left
-not_of_state : {A : Type 0} (t : Test) (b : Bool) (r : Run A) → (passes t && b) ≡ false → of_state t (cond b r (refused outcome.NotDue)) ≡ refused outcome.NotDue
+not_of_state : {A : Type 0} (t : Test) (b : Bool) (r : Run A) → (is_ok t && b) ≡ false → of_state t (cond b r (refused refusal.NotDue)) ≡ refused refusal.NotDue
 unfolding of_state
-not_of_state Pass b r e = rw e
-not_of_state (Fail o) b r e = refl
+not_of_state (Ok _) b r e = rw e
+not_of_state (Err o) b r e = refl
+
+-- the refusal that stands for no answer
+pub not_due : {A : Type 0} (r : Option A) {o : Refusal} → r ≡ None → ◌≡◌ {A = Result A Refusal} (Err o) (ok_or r refusal.NotDue) → o ≡ refusal.NotDue
+not_due r e f = let g = rw e at f in cc
 
 -- ---- a half pass before turn k
 pub record Halfway (n : ℕ) (back : Bool) (m r K x₀ F₀ : List ℤ) (k : ℕ) (x F : List ℤ) : Type 0 where
-  pub shaped : Shaped n r K x
+  pub boxed : Boxed n x
   pub sums : length F ≡ 4 * n
   pub rest : half_along back (system n m r) K (components back n) x₀ F₀ ≡ half_along back (system n m r) K (rest back n k) x F
 
-pub halfway_start : {n : ℕ} (back : Bool) (m : List ℤ) {r K x F : List ℤ} → Shaped n r K x → length F ≡ 4 * n → Halfway n back m r K x F 0 x F
-halfway_start {n} back m {r} {K} {x} {F} w l = record { shaped = w; sums = l; rest = λ j. half_along back (system n m r) K (rest_start back n j) x F }
+pub halfway_start : {n : ℕ} (back : Bool) (m : List ℤ) {r K x F : List ℤ} → Boxed n x → length F ≡ 4 * n → Halfway n back m r K x F 0 x F
+halfway_start {n} back m {r} {K} {x} {F} w l = record { boxed = w; sums = l; rest = λ j. half_along back (system n m r) K (rest_start back n j) x F }
 
 module _ {n : ℕ} {back : Bool} {m r K x₀ F₀ : List ℤ} {k : ℕ} {x F : List ℤ} (w : Halfway n back m r K x₀ F₀ k x F) where
   abbrev sys : System
@@ -85,7 +87,7 @@ module _ {n : ℕ} {back : Bool} {m r K x₀ F₀ : List ℤ} {k : ℕ} {x F : L
     pub below : i < n
     below = rw a (turn_below back n k h)
 
-    abbrev Answer : RowStep → Type 0
+    abbrev Answer : Option (Interval × WideInterval) → Type 0
     Answer s = Stepped (proper (half_row back sys i) (beside back n i + 1) 0 0) (sum_ready K i) (joined back sys x i (sum_at K i)) (side back sys x i) s
 
     -- what comes from turn k on
@@ -93,21 +95,21 @@ module _ {n : ℕ} {back : Bool} {m r K x₀ F₀ : List ℤ} {k : ℕ} {x F : L
     on =
         of_state (proper (half_row back sys i) (beside back n i + 1) 0 0)
         (cond (sum_ready K i)
-        (cond (is_empty (joined back sys x i (sum_at K i))) (refused (outcome.Empty (i + 1)))
+        (cond (is_empty (joined back sys x i (sum_at K i))) (refused (refusal.Empty (i + 1)))
         (half_along back sys K (rest back n (k + 1)) (put x i (joined back sys x i (sum_at K i))) (put_sum F i (side back sys x i))))
-        (refused outcome.NotDue))
+        (refused refusal.NotDue))
 
     goes : half_along back sys K (components back n) x₀ F₀ ≡ on
     unfolding half_along
     goes = w.rest ∙ rw (rest_go back n k h, ← a)
 
-    pub halfway_ill : {s : RowStep} → s ≡ NoState → Answer s → refused outcome.NotDue ≡ half_along back sys K (components back n) x₀ F₀
+    pub halfway_ill : {s : Option (Interval × WideInterval)} → s ≡ None → Answer s → refused refusal.NotDue ≡ half_along back sys K (components back n) x₀ F₀
     halfway_ill e f =
-        sym (goes ∙ not_of_state (proper (half_row back sys i) (beside back n i + 1) 0 0) (sum_ready K i) _ (subst (λ (s : RowStep). Answer s) e f))
+        sym (goes ∙ not_of_state (proper (half_row back sys i) (beside back n i + 1) 0 0) (sum_ready K i) _ (subst (λ (s : Option (Interval × WideInterval)). Answer s) e f))
 
-    module _ {s : RowStep} {v : Interval} {u : WideInterval} (e : s ≡ Next v u) (f : Answer s) where
-      answer : Answer (Next v u)
-      answer = subst (λ (s : RowStep). Answer s) e f
+    module _ {s : Option (Interval × WideInterval)} {v : Interval} {u : WideInterval} (e : s ≡ Some (v, u)) (f : Answer s) where
+      answer : Answer (Some (v, u))
+      answer = subst (λ (s : Option (Interval × WideInterval)). Answer s) e f
 
       pub next_near : NearBoth 32 u
       next_near = answer.4
@@ -118,10 +120,10 @@ module _ {n : ℕ} {back : Bool} {m r K x₀ F₀ : List ℤ} {k : ℕ} {x F : L
       halfway_above o p = rw p (record { each = λ j. go j (ℕ_discrete j i) })
         where
           go : (j : ℕ) → Dec (j ≡ i) → pos 0 ≤ℤ (at (put x i v) j).lo
-          go j (yes q) = rw (q, at_put_same x i v (omega (arith, w.shaped.box, below))) (rw answer.2 (trans (o.each i) (le_max_right _ (at x i).lo)))
+          go j (yes q) = rw (q, at_put_same x i v (omega (arith, w.boxed.long, below))) (rw answer.2 (trans (o.each i) (le_max_right _ (at x i).lo)))
           go j (no q) = rw (at_put_other x i j v q) (o.each j)
 
-      pub halfway_stop : is_empty v ≡ true → refused (outcome.Empty (i + 1)) ≡ half_along back sys K (components back n) x₀ F₀
+      pub halfway_stop : is_empty v ≡ true → refused (refusal.Empty (i + 1)) ≡ half_along back sys K (components back n) x₀ F₀
       unfolding of_state
       halfway_stop g = sym (goes ∙ rw (answer.0, answer.1, ← answer.2, g))
 
@@ -132,29 +134,11 @@ module _ {n : ℕ} {back : Bool} {m r K x₀ F₀ : List ℤ} {k : ℕ} {x F : L
       pub halfway_go : {y G : List ℤ} → is_empty v ≡ false → y ≡ put x i v → G ≡ put_sum F i (held_both u) → Halfway n back m r K x₀ F₀ (k + 1) y G
       unfolding joined
       halfway_go g p q =
-          let z = w.shaped in
-          let b : acceptable v ≡ true = rw answer.2 (intersection_accepted _ (at x i) (z.box_sound.each i) (rw answer.2 at g)) in
+          let z = w.boxed in
+          let b : acceptable v ≡ true = rw answer.2 (intersection_accepted _ (at x i) (z.sound.each i) (rw answer.2 at g)) in
           rw (p, q)
           (record {
-            shaped =
-                record {
-                  few = z.few;
-                  right = z.right;
-                  kept = z.kept;
-                  box = length_put x i v ∙ z.box;
-                  right_sound = z.right_sound;
-                  box_sound = sound_put x i v z.box_sound (omega (arith, z.box, below)) b;
-                };
+            boxed = record { long = length_put x i v ∙ z.long; sound = sound_put x i v z.sound (omega (arith, z.long, below)) b };
             sums = length_put_sum F i (held_both u) ∙ w.sums;
             rest = goes ∙ on_is g;
           })
-
--- ---- the half pass after the tests of right side and box
-module _ (back : Bool) (sys : System) (K X F : List ℤ) where
-  pub tests_stop : {o : Outcome} → both (proper X sys.size 0 0) (proper sys.right sys.size 0 0) ≡ Fail o → refused outcome.NotDue ≡ tested_pass back sys K X F
-  unfolding tested_pass of_state
-  tests_stop e = rw e
-
-  pub tests_go : both (proper X sys.size 0 0) (proper sys.right sys.size 0 0) ≡ Pass → half_along back sys K (components back sys.size) X F ≡ tested_pass back sys K X F
-  unfolding tested_pass of_state
-  tests_go e = rw e

@@ -1,16 +1,16 @@
 -- What one new component changes in the kept sums: in one product, in one row's sum, and one turn of the loop over the rows.
-use mathlib.Core.Path.{◌≡◌, sym, ap, ap₂, subst, ◌∙◌}
+use mathlib.Core.Path.{◌≡◌, refl, sym, ap, ap₂, subst, ◌∙◌}
 use mathlib.Core.Bool.{Bool, true, false, cond, ◌&&◌}
 use mathlib.Core.List.{List}
 use Prim.Native.Nat.{ℕ, suc, ◌+◌, ◌-◌, ◌≤◌, ◌<◌}
 use native.Mathlib.Omega.{arith}
 use lib.IntN.{ℤ, pos, neg_ℤ, ◌-ℤ◌}
-use lib.ListN.{length}
 use lib.Signed.{◌≤ℤ◌}
 use mir.Syntax.{w64}
 use mir.Val.{SFits, to_z, of_z}
-use Rattle.outcome.specs.declared.Outcome.TheVariants as outcome
-use Rattle.outcome.specs.Run.{Run, refused, done}
+use Rattle.outcome.specs.declared.Refusal.TheVariants as refusal
+use Rattle.outcome.specs.declared.Refusal.{Refusal}
+use Rattle.outcome.specs.Run.{Run, refused, done, and_then}
 use Rattle.integer.proofs.Linear.{linear, over}
 use Rattle.integer.proofs.Machine.{fits64, op_safe, op_read}
 use Rattle.integer.proofs.Order.{trans}
@@ -26,7 +26,6 @@ use Rattle.wide_sum.specs.Wide.{held_both}
 use Rattle.wide_sum.specs.Code.{AddedBoth}
 use Rattle.rows.proofs.Size.{Small, exact_product_small, small_fits}
 use Rattle.kept_sums.specs.Kept.{sum_at, put_sum, sum_ready}
-use Rattle.kept_sums.proofs.Kept.{length_put_sum}
 use Rattle.half_rows.specs.Rows.{exchanged, renew}
 use Rattle.half_rows.specs.Code.{change}
 
@@ -82,19 +81,34 @@ pub sum_exchanged : (K : List ℤ) (i : ℕ) (old new : Interval) {a b c : Inter
 unfolding exchanged change
 sum_exchanged K i old new p q r s x = x ∙ ap (put_sum K i) (s.is ∙ ap₂ exact_sum q (r ∙ ap (λ u. change u old new) p))
 
--- ---- one turn of the loop, at row i
+-- ---- row i
 module _ (s : System) (v : ℕ) (old new : Interval) (i : ℕ) (K : List ℤ) where
   abbrev share : Interval
   share = at s.matrix (cell s.size i v)
 
-  -- the sums, with row i's renewed
-  abbrev renewed : List ℤ
-  renewed = put_sum K i (exchanged share old new (sum_at K i))
+  -- a is the share, as it is read
+  module _ {a : Interval} (p : a ≡ share) where
+    pub row_ill : acceptable a ≡ false → refused refusal.NotDue ≡ renew s v old new 1 i K
+    unfolding renew
+    row_ill e = rw (← p, e)
 
-  -- they stay as many, renewed or not
-  pub row_length : (b : Bool) {M : List ℤ} → M ≡ cond b renewed K → length M ≡ length K
-  row_length true e = ap length e ∙ length_put_sum K i _
-  row_length false e = ap length e
+    module _ (e : acceptable a ≡ true) where
+      pub row_unready : sum_ready K i ≡ false → refused refusal.NotDue ≡ renew s v old new 1 i K
+      unfolding renew
+      row_unready f = rw (← p, e, f)
+
+      pub row_done : {M : List ℤ} → sum_ready K i ≡ true → M ≡ put_sum K i (exchanged share old new (sum_at K i)) → done M ≡ renew s v old new 1 i K
+      unfolding renew
+      row_done f g = rw (g, ← p, e, f)
+
+  -- and the rows after it
+  row_first : (d : ℕ) → renew s v old new (suc d) i K ≡ and_then (renew s v old new 1 i K) (λ (M : List ℤ). renew s v old new d (i + 1) M)
+  unfolding renew and_then
+  row_first d = go (acceptable share && sum_ready K i) _ _
+    where
+      go : (b : Bool) (M : List ℤ) (f : List ℤ → Run (List ℤ)) → cond b (f M) (refused refusal.NotDue) ≡ and_then (cond b (done M) (refused refusal.NotDue)) f
+      go true M f = refl
+      go false M f = refl
 
   -- the rows end before row e
   module _ (e : ℕ) where
@@ -105,11 +119,14 @@ module _ (s : System) (v : ℕ) (old new : Interval) (i : ℕ) (K : List ℤ) wh
     unfolding renew
     renew_end h = let f : e - i ≡ 0 = omega arith in rw f
 
-    module _ (h : i < e) {b : Bool} (p : b ≡ (acceptable share && sum_ready K i)) where
-      pub renew_out : b ≡ false → refused outcome.NotDue ≡ from_here
-      unfolding renew
-      renew_out q = let f : e - i ≡ suc (e - (i + 1)) = omega arith in rw (f, sym p, q)
+    module _ (h : i < e) where
+      goes : from_here ≡ and_then (renew s v old new 1 i K) (λ (M : List ℤ). renew s v old new (e - (i + 1)) (i + 1) M)
+      goes = let f : e - i ≡ suc (e - (i + 1)) = omega arith in rw f (row_first (e - (i + 1)))
 
-      pub renew_turn : b ≡ true → {M : List ℤ} → M ≡ cond b renewed K → from_here ≡ renew s v old new (e - (i + 1)) (i + 1) M
-      unfolding renew
-      renew_turn q x = let f : e - i ≡ suc (e - (i + 1)) = omega arith in rw (x, f, sym p, q)
+      pub renew_out : {o : Refusal} → refused o ≡ renew s v old new 1 i K → refused o ≡ from_here
+      unfolding and_then
+      renew_out q = rw (← q) at (sym goes)
+
+      pub renew_turn : {M : List ℤ} → done M ≡ renew s v old new 1 i K → from_here ≡ renew s v old new (e - (i + 1)) (i + 1) M
+      unfolding and_then
+      renew_turn q = rw (← q) at goes

@@ -7,19 +7,19 @@ use native.Mathlib.Omega.{arith}
 use lib.IntN.{ℤ, pos}
 use lib.ListN.{length, get_or, take, drop, length-drop}
 use lib.Seq.{length-take-le, get_or-take, get_or-drop}
+use Rattle.std.specs.Prelude.{Option, is_ok, Ok, Err}
 use Rattle.interval.specs.declared.Interval.{Interval}
 use Rattle.interval.specs.Interval.{zero as zeroInterval, scale, exact_sum, exact_product, rounded, intersection}
 use Rattle.interval.proofs.Range.{same_ends}
-use Rattle.inputs.specs.declared.Test.{Test}
-use Rattle.inputs.specs.declared.Test.TheVariants.{Pass, Fail}
 use Rattle.inputs.specs.Place.{at, cell}
-use Rattle.inputs.specs.Tests.{proper}
+use Rattle.inputs.specs.Tests.{Test, proper}
 use Rattle.inputs.specs.System.{System, system}
+use Rattle.wide_sum.specs.declared.WideInterval.{WideInterval}
+use Rattle.inputs.proofs.Tests.{rows_apart, square}
 use Rattle.rows.specs.Sum.{exactly}
 use Rattle.rows.proofs.Exact.{one_product}
 use Rattle.half_rows.specs.Rows.{first, beside, begin, part, half_row, side, joined}
-use Rattle.half_rows.specs.declared.internal.row.RowStep.{RowStep}
-use Rattle.half_rows.specs.Code.{side_on, joined_on, passes, Stepped}
+use Rattle.half_rows.specs.Code.{side_on, joined_on, Stepped}
 
 -- ---- where the half row of row i lies, and what it has beside the diagonal
 pub record Spans (n i from first beside : ℕ) : Type 0 where
@@ -39,6 +39,10 @@ spans true n i e f g h =
 spans false n i e f g h =
     rw (e, f, g)
     (record { begins = omega arith; diagonal = omega arith; few = omega arith; beside_in = omega arith; diagonal_in = omega arith; box = omega arith; row = omega arith })
+
+-- the half row ends within the n rows
+pub half_end : (back : Bool) (n i : ℕ) {f d : ℕ} → f ≡ begin back i → d ≡ beside back n i → i < n → n ≤ 32 → (i * n + f + (d + 1) ≤ n * n) × (n * n ≤ 1024)
+half_end back n i e g h k = let w = spans back n i e refl g h in (omega (arith, w.row, rows_apart n i n h), square n k)
 
 -- ---- a part of a list of intervals
 pub at_part : (m : List ℤ) (p l r : ℕ) → r < l → at (part m (2 * p) (2 * l)) r ≡ at m (p + r)
@@ -94,17 +98,17 @@ half_length m p d h =
     rw l (length-take-le (2 * (d + 1)) (drop (2 * p) m) (rw (length-drop (2 * p) m) (omega arith)))
 
 -- ---- a row's answer
-pub not_tested : (t : Test) (b : Bool) → passes t ≡ false → (passes t && b) ≡ false
+pub not_tested : (t : Test) (b : Bool) → is_ok t ≡ false → (is_ok t && b) ≡ false
 not_tested t b e = rw e
 
-pub not_ready : (t : Test) {b : Bool} → b ≡ false → (passes t && b) ≡ false
-not_ready Pass e = e
-not_ready (Fail o) e = refl
+pub not_ready : (t : Test) {b : Bool} → b ≡ false → (is_ok t && b) ≡ false
+not_ready (Ok _) e = e
+not_ready (Err o) e = refl
 
-pub stepped_ready : (t : Test) {b : Bool} (v u : Interval) → b ≡ true → (s : RowStep) → Stepped t true v u s → Stepped t b v u s
+pub stepped_ready : (t : Test) {b : Bool} (v u : Interval) → b ≡ true → (s : Option (Interval × WideInterval)) → Stepped t true v u s → Stepped t b v u s
 stepped_ready t {b} v u f s h = subst (λ (y : Bool). Stepped t y v u s) (sym f) h
 
-pub stepped_half : (back : Bool) (sys : System) (X : List ℤ) (i : ℕ) → i < sys.size → (b : Bool) (k : Interval) (s : RowStep) → {h : List ℤ} → h ≡ half_row back sys i
+pub stepped_half : (back : Bool) (sys : System) (X : List ℤ) (i : ℕ) → i < sys.size → (b : Bool) (k : Interval) (s : Option (Interval × WideInterval)) → {h : List ℤ} → h ≡ half_row back sys i
     → Stepped (proper h (beside back sys.size i + 1) 0 0) b (joined_on back sys.size h sys.right X i k) (side_on back sys.size h X i) s
     → Stepped (proper (half_row back sys i) (beside back sys.size i + 1) 0 0) b (joined back sys X i k) (side back sys X i) s
 stepped_half back sys X i l b k s e h =

@@ -8,13 +8,13 @@ use native.Mathlib.Decide.{dec_lt}
 use lib.IntN.{ℤ}
 use lib.ListN.{length, take, drop, length-drop}
 use lib.Seq.{length-take-le}
-use Rattle.outcome.specs.declared.Outcome.{Outcome}
+use Rattle.std.specs.Prelude.{Option, Some, None, is_ok, Ok, Err}
+use Rattle.std.specs.Result.{result_ok}
+use Rattle.outcome.specs.declared.Refusal.{Refusal}
 use Rattle.interval.specs.declared.Interval.{Interval}
 use Rattle.interval.specs.Interval.{zero as zeroInterval, acceptable, exact_sum, exact_product}
-use Rattle.inputs.specs.declared.Test.{Test}
-use Rattle.inputs.specs.declared.Test.TheVariants.{Pass, Fail}
 use Rattle.inputs.specs.Place.{at}
-use Rattle.inputs.specs.Tests.{both, need, proper}
+use Rattle.inputs.specs.Tests.{Test, both, need, proper}
 use Rattle.inputs.specs.Code.{Sound}
 use Rattle.inputs.proofs.Place.{at_past, zero_accepted}
 use Rattle.inputs.proofs.Tests.{never, proper_each, proper_all}
@@ -28,9 +28,7 @@ use Rattle.rows.specs.Word.{Modest, SumModest, NextAbove}
 use Rattle.rows.proofs.Exact.{one_product, exactly_from, exactly_later}
 use Rattle.rows.proofs.Word.{nought_modest}
 use Rattle.half_rows.specs.Rows.{first, beside, begin, part}
-use Rattle.half_rows.specs.declared.internal.tested.Tested.{Tested}
-use Rattle.half_rows.specs.declared.internal.tested.Tested.TheVariants.{Ill, Sum}
-use Rattle.half_rows.specs.Code.{AllShares, NoShare, SumTested, SideSummed, passes}
+use Rattle.half_rows.specs.Code.{AllShares, NoShare, SumTested, SideSummed}
 use Rattle.half_rows.proofs.Row.{Spans, spans, at_part, exactly_part, side_is}
 
 -- ---- a short list of intervals
@@ -102,12 +100,12 @@ module _ (acc : WideInterval) (h : List ℤ) (p : ℕ) (x : List ℤ) (q d : ℕ
   there_all : (j : ℕ) → j < d → at (part h (2 * p) (2 * d)) (0 + j) ≡ at h (p + j)
   there_all j k = let z : 0 + j ≡ j = omega arith in rw z (at_part h p d j k)
 
-  pub whole_tested : (r : Tested) → SumTested acc (take (2 * p + 2 * d - 2 * p) (drop (2 * p) h)) 0 x q d r → SumTested acc h p x q d r
+  pub whole_tested : (r : Option WideInterval) → SumTested acc (take (2 * p + 2 * d - 2 * p) (drop (2 * p) h)) 0 x q d r → SumTested acc h p x q d r
   whole_tested r t = go r (subst (λ (g : List ℤ). SumTested acc g 0 x q d r) (part_is h (2 * p) (2 * d)) t)
     where
-      go : (r : Tested) → SumTested acc (part h (2 * p) (2 * d)) 0 x q d r → SumTested acc h p x q d r
-      go Ill n = record { place = n.place; below = n.below; none = ap acceptable (sym (there_all n.place n.below)) ∙ n.none }
-      go (Sum s) (all, b) =
+      go : (r : Option WideInterval) → SumTested acc (part h (2 * p) (2 * d)) 0 x q d r → SumTested acc h p x q d r
+      go None n = record { place = n.place; below = n.below; none = ap acceptable (sym (there_all n.place n.below)) ∙ n.none }
+      go (Some s) (all, b) =
           let y : p + 0 ≡ p = omega arith in (
             λ j k. ap acceptable (sym (there_all j k)) ∙ all j k,
             record {
@@ -117,25 +115,41 @@ module _ (acc : WideInterval) (h : List ℤ) (p : ℕ) (x : List ℤ) (q d : ℕ
           )
 
 -- what is no interval is found
-pub proper_none : (t : List ℤ) (d p from : ℕ) {o : Outcome} → proper t d p from ≡ Fail o → NoShare t p d
+pub proper_none : (t : List ℤ) (d p from : ℕ) {o : Refusal} → proper t d p from ≡ Err o → NoShare t p d
 unfolding proper both need
 proper_none t zero p from {o} e = never o (sym e)
 proper_none t (suc d) p from {o} e = go (acceptable (at t p)) refl (λ f. proper_none t d (p + 1) from f)
   where
-    go : (b : Bool) → acceptable (at t p) ≡ b → (proper t d (p + 1) from ≡ Fail o → NoShare t (p + 1) d) → NoShare t p (suc d)
+    go : (b : Bool) → acceptable (at t p) ≡ b → (proper t d (p + 1) from ≡ Err o → NoShare t (p + 1) d) → NoShare t p (suc d)
     go false f k = let z : p + 0 ≡ p = omega arith in record { place = 0; below = omega arith; none = rw z f }
     go true f k =
         let n = k (rw f at e) in
         let z : p + 1 + n.place ≡ p + suc n.place = omega arith in
         record { place = suc n.place; below = omega (arith, n.below); none = rw (sym z) n.none }
 
+-- the same from the answer of the test
+module _ (t : List ℤ) (d : ℕ) {r : Test} (e : r ≡ proper t d 0 0) where
+  pub not_proper : result_ok r ≡ None → NoShare t 0 d
+  not_proper f = go r e f
+    where
+      go : (r : Test) → r ≡ proper t d 0 0 → result_ok r ≡ None → NoShare t 0 d
+      go (Ok _) e f = cc
+      go (Err o) e f = proper_none t d 0 0 (sym e)
+
+  pub is_proper : {u : Unit {0}} → result_ok r ≡ Some u → proper t d 0 0 ≡ Ok tt
+  is_proper f = go r e f
+    where
+      go : (r : Test) {u : Unit {0}} → r ≡ proper t d 0 0 → result_ok r ≡ Some u → proper t d 0 0 ≡ Ok tt
+      go (Ok _) e f = sym e
+      go (Err o) e f = cc
+
 -- ---- one share, at a place of h
-module _ (acc : WideInterval) (h : List ℤ) (a : ℕ) (x : List ℤ) (q : ℕ) (r : Tested)
+module _ (acc : WideInterval) (h : List ℤ) (a : ℕ) (x : List ℤ) (q : ℕ) (r : Option WideInterval)
     (t : SumTested acc (take (2 * a + 2 - 2 * a) (drop (2 * a) h)) 0 x q 1 r) where
-  single : {u : Tested} → r ≡ u → SumTested acc (part h (2 * a) (2 * 1)) 0 x q 1 u
+  single : {u : Option WideInterval} → r ≡ u → SumTested acc (part h (2 * a) (2 * 1)) 0 x q 1 u
   single {u} f =
       subst (λ (g : List ℤ). SumTested acc g 0 x q 1 u) (part_is h (2 * a) (2 * 1))
-      (subst (λ (u : Tested). SumTested acc (take (2 * a + 2 - 2 * a) (drop (2 * a) h)) 0 x q 1 u) f t)
+      (subst (λ (u : Option WideInterval). SumTested acc (take (2 * a + 2 - 2 * a) (drop (2 * a) h)) 0 x q 1 u) f t)
 
   here : (j : ℕ) → j < 1 → at (part h (2 * a) (2 * 1)) (0 + j) ≡ at h a
   here j k =
@@ -143,10 +157,10 @@ module _ (acc : WideInterval) (h : List ℤ) (a : ℕ) (x : List ℤ) (q : ℕ) 
       let y : a + 0 ≡ a = omega arith in
       rw z (at_part h a 1 0 (omega arith) ∙ ap (at h) y)
 
-  pub single_none : r ≡ Ill → acceptable (at h a) ≡ false
+  pub single_none : r ≡ None → acceptable (at h a) ≡ false
   single_none f = let n = single f in ap acceptable (sym (here n.place n.below)) ∙ n.none
 
-  module _ {s : WideInterval} (f : r ≡ Sum s) where
+  module _ {s : WideInterval} (f : r ≡ Some s) where
     pub single_share : acceptable (at h a) ≡ true
     single_share = ap acceptable (sym (here 0 (omega arith))) ∙ (single f).0 0 (omega arith)
 
@@ -159,24 +173,24 @@ module _ (acc : WideInterval) (h : List ℤ) (a : ℕ) (x : List ℤ) (q : ℕ) 
     single_near n = near_both_more (omega arith) ((single f).1.near 32 n)
 
 -- ---- the whole half row: the side behind, and the diagonal
-fails : (h : List ℤ) (l p : ℕ) → p < l → acceptable (at h p) ≡ false → passes (proper h l 0 0) ≡ false
+fails : (h : List ℤ) (l p : ℕ) → p < l → acceptable (at h p) ≡ false → is_ok (proper h l 0 0) ≡ false
 fails h l p k e = go (proper h l 0 0) refl
   where
-    go : (t : Test) → proper h l 0 0 ≡ t → passes t ≡ false
-    go Pass f = let z : 0 + p ≡ p = omega arith in sym (ap (λ (r : ℕ). acceptable (at h r)) (sym z) ∙ proper_each h l 0 0 f p k) ∙ e
-    go (Fail o) f = refl
+    go : (t : Test) → proper h l 0 0 ≡ t → is_ok t ≡ false
+    go (Ok _) f = let z : 0 + p ≡ p = omega arith in sym (ap (λ (r : ℕ). acceptable (at h r)) (sym z) ∙ proper_each h l 0 0 f p k) ∙ e
+    go (Err o) f = refl
 
 module _ (back : Bool) (n i : ℕ) (h : List ℤ) (below : i < n) where
   w : Spans n i (begin back i) (first back i) (beside back n i)
   w = spans back n i refl refl refl below
 
-  pub side_fails : NoShare h (first back i - begin back i) (beside back n i) → passes (proper h (beside back n i + 1) 0 0) ≡ false
+  pub side_fails : NoShare h (first back i - begin back i) (beside back n i) → is_ok (proper h (beside back n i + 1) 0 0) ≡ false
   side_fails s = fails h _ (first back i - begin back i + s.place) (omega (arith, w.beside_in, s.below)) s.none
 
-  pub diagonal_fails : acceptable (at h (i - begin back i)) ≡ false → passes (proper h (beside back n i + 1) 0 0) ≡ false
+  pub diagonal_fails : acceptable (at h (i - begin back i)) ≡ false → is_ok (proper h (beside back n i + 1) 0 0) ≡ false
   diagonal_fails e = fails h _ (i - begin back i) (omega (arith, w.diagonal_in)) e
 
-  pub half_passes : AllShares h (first back i - begin back i) (beside back n i) → acceptable (at h (i - begin back i)) ≡ true → proper h (beside back n i + 1) 0 0 ≡ Pass
+  pub half_passes : AllShares h (first back i - begin back i) (beside back n i) → acceptable (at h (i - begin back i)) ≡ true → proper h (beside back n i + 1) 0 0 ≡ Ok tt
   unfolding first beside begin
   half_passes all e = proper_all h _ 0 0 (λ k l. place back k l all e)
     where
@@ -193,17 +207,17 @@ module _ (back : Bool) (n i : ℕ) (h : List ℤ) (below : i < n) where
 
 -- ---- the side, as the code has it
 module _ (back : Bool) (n i : ℕ) (h X : List ℤ) {f q d : ℕ} (ef : f ≡ begin back i) (eq : q ≡ first back i) (ed : d ≡ beside back n i)
-    (z : WideInterval) (r : Tested) (t : SumTested z h (q - f) X q d r) where
+    (z : WideInterval) (r : Option WideInterval) (t : SumTested z h (q - f) X q d r) where
   at_side : (Q : (p d : ℕ) → Type 0) → Q (q - f) d → Q (first back i - begin back i) (beside back n i)
   at_side Q a = subst (λ (d : ℕ). Q (first back i - begin back i) d) ed (subst (λ (p : ℕ). Q p d) (λ j. eq j - ef j) a)
 
-  answer : {u : Tested} → r ≡ u → SumTested z h (q - f) X q d u
-  answer e = subst (λ (u : Tested). SumTested z h (q - f) X q d u) e t
+  answer : {u : Option WideInterval} → r ≡ u → SumTested z h (q - f) X q d u
+  answer e = subst (λ (u : Option WideInterval). SumTested z h (q - f) X q d u) e t
 
-  pub side_none : r ≡ Ill → NoShare h (first back i - begin back i) (beside back n i)
+  pub side_none : r ≡ None → NoShare h (first back i - begin back i) (beside back n i)
   side_none e = at_side (NoShare h) (answer e)
 
-  pub side_summed : {s : WideInterval} → held_both z ≡ zeroInterval → NearBoth 0 z → d ≤ 32 → r ≡ Sum s → SideSummed back n h X i s
+  pub side_summed : {s : WideInterval} → held_both z ≡ zeroInterval → NearBoth 0 z → d ≤ 32 → r ≡ Some s → SideSummed back n h X i s
   side_summed g m l e =
       let a = answer e in
       record {

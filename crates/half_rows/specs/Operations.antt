@@ -1,6 +1,6 @@
 -- Document 02, A6: 'The operations are load, half pass up, half pass down, and narrowing one vat by a weighed interval.'
 use Rattle.std.specs.Prelude.{Bool, true, false, not, cond, ◌&&◌, ◌||◌, List, [], ◌∷◌, ℕ, ◌+◌, ◌-◌, eqb, leb, ℤ, length}
-use Rattle.outcome.specs.declared.Outcome.TheVariants as outcome
+use Rattle.outcome.specs.declared.Refusal.TheVariants as refusal
 use Rattle.outcome.specs.Run.{Run, refused, done, and_then, Returned, written, ended}
 use Rattle.interval.specs.declared.Interval.{Interval}
 use Rattle.interval.specs.Interval.{acceptable, intersection, is_empty}
@@ -26,7 +26,7 @@ abbrev pub loaded : System → (X : List ℤ) → List ℤ
 loaded s X = loaded_over empty s X
 
 unfoldable pub load_run : System → (X t : List ℤ) → Run (List ℤ)
-load_run s X t = cond (eqb (length t) state_length) (tested (tests s 1 X) (done (loaded s X))) (refused outcome.NotDue)
+load_run s X t = cond (eqb (length t) state_length) (tested (tests s 1 X) (done (loaded s X))) (refused refusal.NotDue)
 
 -- ---- 'The half passes take turns': one works out its side's sums, and the other one is due then. 'An empty … half pass is 7 with its vat'
 unfoldable pub passed : (back : Bool) → (t : List ℤ) → Worked → List ℤ
@@ -40,8 +40,8 @@ pass_of back t n =
 -- 19: 'nothing loaded or a half pass out of turn'
 unfoldable pub pass_run : (back : Bool) → (t : List ℤ) → Run (List ℤ)
 pass_run back t =
-    cond (eqb (size_of t) 0) (refused outcome.NotDue)
-    (cond (eqb (turn_of t) (due back)) (and_then (pass_of back t (size_of t)) (λ w. done (passed back t w))) (refused outcome.NotDue))
+    cond (eqb (size_of t) 0) (refused refusal.NotDue)
+    (cond (eqb (turn_of t) (due back)) (and_then (pass_of back t (size_of t)) (λ w. done (passed back t w))) (refused refusal.NotDue))
 
 -- ---- 'narrowing one vat by a weighed interval': component v becomes what it has in common with w, and the kept sums that the half pass
 -- now due reads, of the rows that it passes before v, are renewed. The turn stays
@@ -53,17 +53,17 @@ narrowed_to back t n v new =
 unfoldable pub narrowed_of : (back : Bool) → (t : List ℤ) (n v : ℕ) → (w : Interval) → Run (List ℤ)
 narrowed_of back t n v w =
     cond (acceptable (at (box_of t n) v))
-    (cond (is_empty (intersection w (at (box_of t n) v))) (refused (outcome.Empty (v + 1)))
+    (cond (is_empty (intersection w (at (box_of t n) v))) (refused (refusal.Empty (v + 1)))
     (narrowed_to back t n v (intersection w (at (box_of t n) v))))
-    (refused outcome.NotDue)
+    (refused refusal.NotDue)
 
 -- '19 comes first, then 20, 3, 7'
 unfoldable pub narrow_run : (vat : ℕ) → Interval → (t : List ℤ) → Run (List ℤ)
 narrow_run vat w t =
-    cond (eqb (size_of t) 0 || eqb (turn_of t) 0) (refused outcome.NotDue)
+    cond (eqb (size_of t) 0 || eqb (turn_of t) 0) (refused refusal.NotDue)
     (cond (leb 1 vat && leb vat (size_of t))
-    (cond (acceptable w) (narrowed_of (eqb (turn_of t) (due true)) t (size_of t) (vat - 1) w) (refused (outcome.Ends 0)))
-    (refused outcome.NoComponent))
+    (cond (acceptable w) (narrowed_of (eqb (turn_of t) (due true)) t (size_of t) (vat - 1) w) (refused (refusal.Ends 0)))
+    (refused refusal.NoComponent))
 
 -- ---- an operation on a state; what it returns and leaves: 'a refusal changes nothing in the state', and there is no count
 unfoldable pub run : Operation → (t : List ℤ) → Run (List ℤ)

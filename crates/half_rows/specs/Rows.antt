@@ -2,16 +2,14 @@
 -- out those of the other, and what one new component changes in them.
 -- 'back' is the way from n to 1; the other is the way there, from 1 to n. The way there works out the sums left of the diagonal, the way
 -- back those right of it: in both, over the components that it has already passed.
-use Rattle.std.specs.Prelude.{Bool, cond, ◌&&◌, List, [], ◌∷◌, ℕ, zero, suc, ◌+◌, ◌-◌, ◌*◌, ℤ, ◌-ℤ◌, take, drop}
-use Rattle.outcome.specs.declared.Outcome.TheVariants as outcome
+use Rattle.std.specs.Prelude.{Bool, cond, ◌&&◌, List, [], ◌∷◌, ℕ, zero, suc, ◌+◌, ◌-◌, ◌*◌, ℤ, ◌-ℤ◌, take, drop, Ok, Err}
+use Rattle.outcome.specs.declared.Refusal.TheVariants as refusal
 use Rattle.outcome.specs.Run.{Run, refused, done}
 use Rattle.interval.specs.declared.Interval.{Interval}
 use Rattle.interval.specs.Interval as interval
 use Rattle.interval.specs.Interval.{ends, scale, acceptable, exact_sum, exact_product, rounded, intersection, is_empty}
-use Rattle.inputs.specs.declared.Test.{Test}
-use Rattle.inputs.specs.declared.Test.TheVariants.{Pass, Fail}
 use Rattle.inputs.specs.Place.{at, put, cell}
-use Rattle.inputs.specs.Tests.{proper}
+use Rattle.inputs.specs.Tests.{Test, proper}
 use Rattle.inputs.specs.System.{System}
 use Rattle.rows.specs.Sum.{exactly}
 use Rattle.kept_sums.specs.Kept.{sum_at, put_sum, sum_ready}
@@ -40,8 +38,8 @@ joined back s X i k =
 
 -- ---- 'any other value may meet 19': numbers that no operation left are met where they are read
 unfoldable pub of_state : {A : Type 0} → Test → Run A → Run A
-of_state Pass r = r
-of_state (Fail o) r = refused outcome.NotDue
+of_state (Ok _) r = r
+of_state (Err o) r = refused refusal.NotDue
 
 -- so many numbers of a list from a place on
 abbrev pub part : List ℤ → (from count : ℕ) → List ℤ
@@ -70,9 +68,9 @@ half_along back s K [] X F = done (worked X F)
 half_along back s K (i ∷ is) X F =
     of_state (proper (half_row back s i) (beside back s.size i + 1) 0 0)
     (cond (sum_ready K i)
-    (cond (is_empty (joined back s X i (sum_at K i))) (refused (outcome.Empty (i + 1)))
+    (cond (is_empty (joined back s X i (sum_at K i))) (refused (refusal.Empty (i + 1)))
     (half_along back s K is (put X i (joined back s X i (sum_at K i))) (put_sum F i (side back s X i))))
-    (refused outcome.NotDue))
+    (refused refusal.NotDue))
 
 -- ---- one component becomes another
 -- a kept sum that holds the product of a with old, with that of a with new in its place
@@ -86,7 +84,7 @@ renew s v old new zero i K = done K
 renew s v old new (suc d) i K =
     cond (acceptable (at s.matrix (cell s.size i v)) && sum_ready K i)
     (renew s v old new d (i + 1) (put_sum K i (exchanged (at s.matrix (cell s.size i v)) old new (sum_at K i))))
-    (refused outcome.NotDue)
+    (refused refusal.NotDue)
 
 -- ---- the sums of one side of every row, worked out afresh, for the rows i, i + 1, .., d of them
 unfoldable pub sides : (back : Bool) → System → (X : List ℤ) → (d i : ℕ) → (K : List ℤ) → List ℤ

@@ -7,3 +7,4 @@ pub mod row;
 pub mod short;
 pub mod state;
 pub mod tested;
+pub mod way;

@@ -6,10 +6,9 @@ use native.Mathlib.Omega.{arith}
 use borrow.Author.Tests.{eq-eqb}
 use lib.IntN.{ℤ, pos}
 use lib.ListN.{length, length-replicate, get_or-replicate}
+use Rattle.std.specs.Prelude.{Ok, Err}
 use Rattle.outcome.specs.Run.{Run, refused, done}
-use Rattle.inputs.specs.declared.Test.{Test}
-use Rattle.inputs.specs.declared.Test.TheVariants.{Pass, Fail}
-use Rattle.inputs.specs.Tests.{tested}
+use Rattle.inputs.specs.Tests.{Test, tested}
 use Rattle.inputs.specs.System.{System}
 use Rattle.sweep.specs.Call.{tests}
 use Rattle.sweep.proofs.Tests.{fits, ready}
@@ -36,7 +35,7 @@ pub empty_good : Good empty
 empty_good = blank empty_long (size_none empty empty_long (get_or-replicate state_length 0 (pos 0) (pos 0) (omega arith)))
 
 -- ---- load
-module _ (s : System) (X : List ℤ) (e : tests s 1 X ≡ Pass) where
+module _ (s : System) (X : List ℤ) (e : tests s 1 X ≡ Ok tt) where
   load_over : (t : List ℤ) → length t ≡ state_length
       → Loaded (with_turn (with_sums (with_box (with_system t s) X) true (sides true s X s.size 0 (sums_of true t s.size))) false) s true X
       (sides true s X s.size 0 (sums_of true t s.size))
@@ -56,5 +55,5 @@ unfolding load_run tested
 load_does s X t l = rw (eq-eqb (length t) state_length l) (go (tests s 1 X) refl)
   where
     go : (r : Test) → tests s 1 X ≡ r → Does (tested r (done (loaded s X))) (tested r (done (held s false X)))
-    go Pass e = does_loaded (load_loaded s X e)
-    go (Fail o) e = refl
+    go (Ok _) e = does_loaded (load_loaded s X e)
+    go (Err o) e = refl

@@ -8,11 +8,11 @@ use native.Mathlib.Decide.{ℕ_discrete}
 use native.Mathlib.Nat.{zero-add, le_refl}
 use lib.IntN.{ℤ}
 use lib.ListN.{length}
-use Rattle.outcome.specs.declared.Outcome.TheVariants as outcome
+use Rattle.std.specs.Prelude.{Ok}
+use Rattle.outcome.specs.declared.Refusal.TheVariants as refusal
 use Rattle.outcome.specs.Run.{Run, refused, done}
 use Rattle.interval.specs.declared.Interval.{Interval}
 use Rattle.interval.specs.Interval.{is_empty}
-use Rattle.inputs.specs.declared.Test.TheVariants.{Pass}
 use Rattle.inputs.specs.Place.{put, cell}
 use Rattle.inputs.specs.Tests.{proper}
 use Rattle.inputs.specs.Code.{Sound}
@@ -31,10 +31,10 @@ use Rattle.half_rows_afresh.proofs.Kept.{Kept, AllKept, kept_put_same, kept_put_
 use Rattle.half_rows_afresh.proofs.Way.{left, turn, Ahead, Passed, left_all, left_none, passed_all, passed_none, left_next, turn_below, turn_ahead, ahead_before, passed_before, ahead_unread, passed_unread}
 
 -- ---- the shares of half a row pass their test
-pub sound_proper : (t : List ℤ) → Sound t → (d p from : ℕ) → proper t d p from ≡ Pass
+pub sound_proper : (t : List ℤ) → Sound t → (d p from : ℕ) → proper t d p from ≡ Ok tt
 sound_proper t h d p from = proper_all t d p from (λ k l. h.each (p + k))
 
-row_proper : (back : Bool) (s : System) (i : ℕ) → Sound s.matrix → proper (half_row back s i) (beside back s.size i + 1) 0 0 ≡ Pass
+row_proper : (back : Bool) (s : System) (i : ℕ) → Sound s.matrix → proper (half_row back s i) (beside back s.size i + 1) 0 0 ≡ Ok tt
 unfolding half_row
 row_proper back s i h =
     proper_all _ _ 0 0
@@ -54,7 +54,7 @@ module _ (back : Bool) (s : System) where
     -- ---- one component
     half_step : (i : ℕ) (is : List ℕ) (X F : List ℤ) → i < s.size → Sound s.matrix → Kept (not back) s X K i
         → half_along back s K (i ∷ is) X F ≡
-        cond (is_empty (component once s X i)) (refused (outcome.Empty (i + 1)))
+        cond (is_empty (component once s X i)) (refused (refusal.Empty (i + 1)))
         (half_along back s K is (put X i (component once s X i)) (put_sum F i (side back s X i)))
     unfolding half_along of_state
     half_step i is X F h a k = rw (row_proper back s i a, k.ready, k.is, component_joined s X i back h)
@@ -91,8 +91,8 @@ module _ (back : Bool) (s : System) where
 
         go : (b : Bool) → is_empty v ≡ b
             → (is_empty v ≡ false → Agrees (half_along back s K (left back s.size d) (put X i v) F') (along once s (left back s.size d) (put X i v)))
-            → Agrees (cond b (refused (outcome.Empty (i + 1))) (half_along back s K (left back s.size d) (put X i v) F'))
-            (cond b (refused (outcome.Empty (i + 1))) (along once s (left back s.size d) (put X i v)))
+            → Agrees (cond b (refused (refusal.Empty (i + 1))) (half_along back s K (left back s.size d) (put X i v) F'))
+            (cond b (refused (refusal.Empty (i + 1))) (along once s (left back s.size d) (put X i v)))
         go true e r = refl
         go false e r = r e
 

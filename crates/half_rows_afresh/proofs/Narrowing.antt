@@ -7,7 +7,7 @@ use native.Mathlib.Omega.{arith}
 use borrow.Author.Tests.{eq-eqb, leb-true}
 use lib.Dec.{eqb, leb}
 use lib.IntN.{ℤ}
-use Rattle.outcome.specs.declared.Outcome.TheVariants as outcome
+use Rattle.outcome.specs.declared.Refusal.TheVariants as refusal
 use Rattle.outcome.specs.Run.{refused, done, and_then}
 use Rattle.interval.specs.declared.Interval.{Interval}
 use Rattle.interval.specs.Interval.{acceptable, intersection, is_empty}
@@ -49,12 +49,12 @@ module _ (back : Bool) {t : List ℤ} {s : System} {X K : List ℤ} (l : Loaded 
       let k = renew_kept back s X K v new r.few h l.ready.box r.matrix_sound r.box_sound l.kept in
       rw (narrowed_is, k.is) (does_loaded (written_loaded l r k.kept))
 
-  narrowed_does : Does (narrowed_of back t s.size v w) (cond (is_empty new) (refused (outcome.Empty (v + 1))) (done (held s (not (not back)) (put X v new))))
+  narrowed_does : Does (narrowed_of back t s.size v w) (cond (is_empty new) (refused (refusal.Empty (v + 1))) (done (held s (not (not back)) (put X v new))))
   unfolding narrowed_of
   narrowed_does = rw (l.box, l.ready.box_sound.each v) (go (is_empty new) refl)
     where
       go : (b : Bool) → is_empty new ≡ b
-          → Does (cond b (refused (outcome.Empty (v + 1))) (narrowed_to back t s.size v new)) (cond b (refused (outcome.Empty (v + 1))) (done (held s (not (not back)) (put X v new))))
+          → Does (cond b (refused (refusal.Empty (v + 1))) (narrowed_to back t s.size v new)) (cond b (refused (refusal.Empty (v + 1))) (done (held s (not (not back)) (put X v new))))
       go true e = refl
       go false e = narrowed_to_lem e
 
@@ -71,18 +71,18 @@ module _ (back : Bool) {t : List ℤ} {s : System} {X K : List ℤ} (l : Loaded 
       rw (not_nought l, l.turn, turn_some (not (not back)), due_back (not back), l.size, not_not back) (go (leb 1 vat && leb vat s.size) refl)
     where
       accepted : (b : Bool) → 1 ≤ vat → vat ≤ s.size
-          → Does (cond b (narrowed_of back t s.size (vat - 1) w) (refused (outcome.Ends 0)))
-          (cond b (cond (is_empty (intersection w (at X (vat - 1)))) (refused (outcome.Empty vat)) (done (held s back (put X (vat - 1) (intersection w (at X (vat - 1)))))))
-          (refused (outcome.Ends 0)))
+          → Does (cond b (narrowed_of back t s.size (vat - 1) w) (refused (refusal.Ends 0)))
+          (cond b (cond (is_empty (intersection w (at X (vat - 1)))) (refused (refusal.Empty vat)) (done (held s back (put X (vat - 1) (intersection w (at X (vat - 1)))))))
+          (refused (refusal.Ends 0)))
       accepted true h g =
           let e : vat - 1 + 1 ≡ vat = omega arith in
           rw (e, not_not back) at (narrowed_does back l (vat - 1) (omega arith) w)
       accepted false h g = refl
 
       go : (b : Bool) → (leb 1 vat && leb vat s.size) ≡ b
-          → Does (cond b (cond (acceptable w) (narrowed_of back t s.size (vat - 1) w) (refused (outcome.Ends 0))) (refused outcome.NoComponent))
-          (cond b (cond (acceptable w) (cond (is_empty (intersection w (at X (vat - 1)))) (refused (outcome.Empty vat)) (done (held s back (put X (vat - 1) (intersection w (at X (vat - 1)))))))
-          (refused (outcome.Ends 0))) (refused outcome.NoComponent))
+          → Does (cond b (cond (acceptable w) (narrowed_of back t s.size (vat - 1) w) (refused (refusal.Ends 0))) (refused refusal.NoComponent))
+          (cond b (cond (acceptable w) (cond (is_empty (intersection w (at X (vat - 1)))) (refused (refusal.Empty vat)) (done (held s back (put X (vat - 1) (intersection w (at X (vat - 1)))))))
+          (refused (refusal.Ends 0))) (refused refusal.NoComponent))
       go true e = let b = and_both (leb 1 vat) (leb vat s.size) e in accepted (acceptable w) (leb-true 1 vat b.0) (leb-true vat s.size b.1)
       go false e = refl
 

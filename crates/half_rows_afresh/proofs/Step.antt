@@ -10,7 +10,8 @@ use borrow.Author.Tests.{leb-true}
 use lib.Dec.{leb}
 use lib.IntN.{ℤ}
 use lib.ListN.{length}
-use Rattle.outcome.specs.declared.Outcome.TheVariants as outcome
+use Rattle.std.specs.Prelude.{Err}
+use Rattle.outcome.specs.declared.Refusal.TheVariants as refusal
 use Rattle.outcome.specs.Table.{number_and_place}
 use Rattle.outcome.specs.Run.{Run, refused, done, and_then}
 use Rattle.interval.specs.declared.Interval.{Interval}
@@ -47,7 +48,7 @@ module _ (s : System) (o : Operation) (X : List ℤ) where
 
   -- where it is refused, it does not say 7 of a box that holds a solution
   abbrev pub OnStep : Run Held → Type 0
-  OnStep (refused p) = (x : ℕ → Fraction) → Solution s x → Weighed x o → InBox s.size X x → (number_and_place p).number ≢ 7
+  OnStep (refused p) = (x : ℕ → Fraction) → Solution s x → Weighed x o → InBox s.size X x → (number_and_place (Err p)).number ≢ 7
   OnStep (done h) = Next h
 
 -- ---- a half pass
@@ -64,7 +65,7 @@ pass_step s back b X l = go (cond b back (not back))
     ended (refused p) f = λ x sol w k e. f x sol k
     ended (done Y) f = record { back = not back; box = Y; is = refl; as_long = f.as_long; narrowed = f.narrowed; keeps = λ x sol w k. f.keeps x sol k }
 
-    go : (c : Bool) → OnStep s (half_pass back) X (cond c (and_then (along once s (components back s.size) X) (λ Y. done (held s (not back) Y))) (refused outcome.NotDue))
+    go : (c : Bool) → OnStep s (half_pass back) X (cond c (and_then (along once s (components back s.size) X) (λ Y. done (held s (not back) Y))) (refused refusal.NotDue))
     go true = ended (along once s (components back s.size) X) (along_follows once once_encloses s (components back s.size) (components_below back s.size) l (follows_refl s X))
     go false = λ x sol w k. omega arith
 
@@ -90,7 +91,7 @@ narrowing_step s vat w b X l = go (leb 1 vat && leb vat s.size) refl
     inside : vat - 1 < s.size → (x : ℕ → Fraction) → Weighed x o → InBox s.size X x → Inside new (x (vat - 1))
     inside h x i k = intersection_inside i (k.each (vat - 1) h)
 
-    emptied : (e : Bool) → is_empty new ≡ e → vat - 1 < s.size → OnStep s o X (cond e (refused (outcome.Empty vat)) (done (held s b (put X (vat - 1) new))))
+    emptied : (e : Bool) → is_empty new ≡ e → vat - 1 < s.size → OnStep s o X (cond e (refused (refusal.Empty vat)) (done (held s b (put X (vat - 1) new))))
     emptied true e h = λ x sol i k f. held_not_empty e (inside h x i k)
     emptied false e h =
         let room : 2 * (vat - 1) + 1 < length X = omega arith in
@@ -104,13 +105,13 @@ narrowing_step s vat w b X l = go (leb 1 vat && leb vat s.size) refl
         }
 
     accepted : (a : Bool) → vat - 1 < s.size
-        → OnStep s o X (cond a (cond (is_empty new) (refused (outcome.Empty vat)) (done (held s b (put X (vat - 1) new)))) (refused (outcome.Ends 0)))
+        → OnStep s o X (cond a (cond (is_empty new) (refused (refusal.Empty vat)) (done (held s b (put X (vat - 1) new)))) (refused (refusal.Ends 0)))
     accepted true h = emptied (is_empty new) refl h
     accepted false h = λ x sol i k. omega arith
 
     go : (c : Bool) → (leb 1 vat && leb vat s.size) ≡ c
-        → OnStep s o X (cond c (cond (acceptable w) (cond (is_empty new) (refused (outcome.Empty vat)) (done (held s b (put X (vat - 1) new)))) (refused (outcome.Ends 0)))
-        (refused outcome.NoComponent))
+        → OnStep s o X (cond c (cond (acceptable w) (cond (is_empty new) (refused (refusal.Empty vat)) (done (held s b (put X (vat - 1) new)))) (refused (refusal.Ends 0)))
+        (refused refusal.NoComponent))
     go true e =
         let p = and_both (leb 1 vat) (leb vat s.size) e in
         let f = leb-true 1 vat p.0 in

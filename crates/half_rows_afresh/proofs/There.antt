@@ -5,10 +5,9 @@ use mathlib.Core.List.{List, [], ◌∷◌, ◌++◌, append-nil}
 use Prim.Native.Nat.{ℕ, zero, suc}
 use lib.IntN.{ℤ}
 use lib.ListN.{length}
+use Rattle.std.specs.Prelude.{Ok, Err}
 use Rattle.outcome.specs.Run.{Run, refused, done, and_then}
-use Rattle.inputs.specs.declared.Test.{Test}
-use Rattle.inputs.specs.declared.Test.TheVariants.{Pass, Fail}
-use Rattle.inputs.specs.Tests.{tested}
+use Rattle.inputs.specs.Tests.{Test, tested}
 use Rattle.inputs.specs.System.{System}
 use Rattle.rows.specs.Sum.{once}
 use Rattle.sweep.specs.Pass.{along, up, down, sweep, symmetric}
@@ -80,8 +79,8 @@ from_load s X t os l =
 
     go : (e : Test) → and_then (and_then (tested e (done (held s false X))) (λ h. all_afresh os h)) (λ h. done (box_held h)) ≡
         tested e (and_then (all_afresh os (held s false X)) (λ h. done (box_held h)))
-    go Pass = refl
-    go (Fail o) = refl
+    go (Ok _) = refl
+    go (Err o) = refl
 
 held_back : (s : System) (r : Run (List ℤ)) → and_then (and_then r (λ Y. all_afresh [] (held s false Y))) (λ h. done (box_held h)) ≡ r
 unfolding and_then all_afresh

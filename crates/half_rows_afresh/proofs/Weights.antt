@@ -7,11 +7,11 @@ use Prim.Native.Nat.{ℕ, ◌*◌}
 use native.Mathlib.Omega.{arith}
 use lib.IntN.{ℤ}
 use lib.ListN.{length}
+use Rattle.std.specs.Prelude.{Ok}
 use Rattle.outcome.specs.Run.{Run, refused, done, written, ended}
 use Rattle.outcome.proofs.Run.{done_same, not_refused}
 use Rattle.fraction.specs.Fraction.{Fraction}
 use Rattle.fraction.proofs.Contains.{contains_refl}
-use Rattle.inputs.specs.declared.Test.TheVariants.{Pass}
 use Rattle.inputs.specs.Place.{at}
 use Rattle.inputs.specs.Tests.{tested}
 use Rattle.inputs.specs.System.{System}
@@ -77,7 +77,7 @@ module _ (s : System) (x : ℕ → Fraction) (sol : Solution s x) where
   after_holding (o ∷ os) w h = after_holding os w.1 (operate_holding h o w.0)
 
   -- ---- after a load
-  load_holding : (X t : List ℤ) → length t ≡ state_length → tests s 1 X ≡ Pass → InBox s.size X x → Holding (operate (load s X) t).left
+  load_holding : (X t : List ℤ) → length t ≡ state_length → tests s 1 X ≡ Ok tt → InBox s.size X x → Holding (operate (load s X) t).left
   unfolding operate run ended tested
   load_holding X t l e k = go (load_run s X t) (rw e at (load_does s X t l))
     where

@@ -1,7 +1,6 @@
 -- Document 02, A6: what holds of 'states that the operations made from the empty one'.
-use Rattle.std.specs.Prelude.{◌≡◌, ◌≢◌, true, false, not, List, [], ◌∷◌, ◌++◌, ℕ, zero, suc, ◌-◌, ◌<◌, eqb, ℤ, length}
+use Rattle.std.specs.Prelude.{◌≡◌, ◌≢◌, true, false, not, List, [], ◌∷◌, ◌++◌, ℕ, zero, suc, ◌-◌, ◌<◌, eqb, ℤ, length, Ok}
 use Rattle.outcome.specs.Run.{Run, done, and_then}
-use Rattle.inputs.specs.declared.Test.TheVariants.{Pass}
 use Rattle.inputs.specs.Tests.{tested}
 use Rattle.inputs.specs.System.{System}
 use Rattle.fraction.specs.Fraction.{Fraction, Inside}
@@ -86,7 +85,7 @@ Tightens (narrowing vat w) = Unit {0}
 
 pub record NoWeightLost : Type 0 where
   pub kept :
-      (s : System) (X t : List ℤ) → length t ≡ state_length → tests s 1 X ≡ Pass
+      (s : System) (X t : List ℤ) → length t ≡ state_length → tests s 1 X ≡ Ok tt
       → (x : ℕ → Fraction) → Solution s x → InBox s.size X x
       → (os : List Operation) → AllWeighed x os → Kept s X x os t
   -- no operation but a load widens a bound

@@ -6,37 +6,38 @@ use Prim.Native.Nat.{ℕ, zero, suc, ◌+◌, ◌≤◌}
 use borrow.Author.Tests.{leb-true}
 use lib.Dec.{leb}
 use lib.IntN.{ℤ}
-use Rattle.outcome.specs.declared.Outcome.{Outcome}
+use Rattle.outcome.specs.declared.Refusal.{Refusal}
 use Rattle.outcome.specs.Table.{number_and_place}
 use Rattle.interval.proofs.Range.{and_both}
-use Rattle.inputs.specs.declared.Test.{Test}
-use Rattle.inputs.specs.declared.Test.TheVariants.{Pass, Fail}
+use Rattle.inputs.specs.declared.Slice.{Slice}
+use Rattle.inputs.specs.Tests.{Test}
+use Rattle.std.specs.Prelude.{Ok, Err}
 use Rattle.inputs.specs.System.{System, tests}
-use Rattle.inputs.specs.Tests.{both, need, sized, Slice, lengths, sizes, proper, Part, all_proper}
+use Rattle.inputs.specs.Tests.{both, need, sized, lengths, sizes, proper, Part, all_proper}
 
-abbrev First : Outcome → Type 0
-First o = (leb 1 (number_and_place o).number && leb (number_and_place o).number 4) ≡ true
+abbrev First : Refusal → Type 0
+First o = (leb 1 (number_and_place (Err o)).number && leb (number_and_place (Err o)).number 4) ≡ true
 
 abbrev OnTest : Test → Type 0
-OnTest Pass = Unit
-OnTest (Fail o) = First o
+OnTest (Ok tt) = Unit
+OnTest (Err o) = First o
 
 -- it is a record so that a search goes by the parts of the test and computes none of them
 pub record Early (t : Test) : Type 0 where
   where_failed : OnTest t
 
-pub early_pass : Early Pass
+pub early_pass : Early (Ok tt)
 early_pass = record { where_failed = tt }
 
-pub early_need : (b : Bool) (o : Outcome) → First o → Early (need b o)
+pub early_need : (b : Bool) (o : Refusal) → First o → Early (need b o)
 unfolding need
 early_need true o h = early_pass
 early_need false o h = record { where_failed = h }
 
 pub early_both : (t u : Test) → Early t → Early u → Early (both t u)
 unfolding both
-early_both Pass u h k = k
-early_both (Fail o) u h k = h
+early_both (Ok _) u h k = k
+early_both (Err o) u h k = h
 
 pub ruleset parts = (early_pass, early_need, early_both)
 
@@ -63,7 +64,7 @@ pub early_tests : (s : System) (l : ℕ) → Early (tests s l)
 unfolding tests
 early_tests s l = search (early_both, early_sizes, early_all)
 
-pub early_number : {t : Test} {o : Outcome} → Early t → t ≡ Fail o → (1 ≤ (number_and_place o).number) × ((number_and_place o).number ≤ 4)
+pub early_number : {t : Test} {o : Refusal} → Early t → t ≡ Err o → (1 ≤ (number_and_place (Err o)).number) × ((number_and_place (Err o)).number ≤ 4)
 early_number {o = o} h e =
     let b = and_both _ _ (subst Early e h).where_failed in
-    (leb-true 1 (number_and_place o).number b.0, leb-true (number_and_place o).number 4 b.1)
+    (leb-true 1 (number_and_place (Err o)).number b.0, leb-true (number_and_place (Err o)).number 4 b.1)

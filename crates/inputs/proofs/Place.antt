@@ -15,7 +15,7 @@ use Rattle.interval.specs.Interval.{zero as zeroInterval, ends, acceptable, lowe
 use Rattle.interval.proofs.Range.{same_ends}
 use Rattle.inputs.specs.Place.{at, put, cell, numbers}
 use Rattle.inputs.specs.Code.{Sound}
-use Rattle.inputs.specs.declared.Test.TheVariants.{Pass}
+use Rattle.std.specs.Prelude.{Ok}
 use Rattle.inputs.specs.Tests.{proper}
 use Rattle.inputs.proofs.Tests.{rows_apart, proper_each}
 
@@ -54,7 +54,7 @@ pub zero_accepted : acceptable zeroInterval ≡ true
 unfolding acceptable in_range within lowest highest
 zero_accepted = refl
 
-pub proper_sound : (t : List ℤ) (count from : ℕ) → length t ≡ 2 * count → proper t count 0 from ≡ Pass → Sound t
+pub proper_sound : (t : List ℤ) (count from : ℕ) → length t ≡ 2 * count → proper t count 0 from ≡ Ok tt → Sound t
 proper_sound t count from l e = record { each = λ p. go p (dec_lt p count) }
   where
     go : (p : ℕ) → Dec (p < count) → acceptable (at t p) ≡ true

@@ -6,11 +6,12 @@ use native.Mathlib.Nat.{zero-add}
 use borrow.Author.Tests.{eqb-true}
 use lib.IntN.{ℤ}
 use lib.ListN.{length}
-use Rattle.outcome.specs.declared.Outcome.{Outcome}
-use Rattle.outcome.specs.declared.Outcome.TheVariants as outcome
+use Rattle.outcome.specs.declared.Refusal.{Refusal}
+use Rattle.outcome.specs.declared.Refusal.TheVariants as refusal
 use Rattle.outcome.specs.Run.{Run, ended}
-use Rattle.inputs.specs.declared.Test.{Test}
-use Rattle.inputs.specs.declared.Test.TheVariants.{Pass, Fail}
+use Rattle.inputs.specs.declared.Slice.{Slice}
+use Rattle.inputs.specs.Tests.{Test}
+use Rattle.std.specs.Prelude.{Result, Ok, Err}
 use Rattle.inputs.specs.Tests.{both, sized, lengths, sizes, proper, Part, all_proper, tested}
 use Rattle.inputs.specs.System.{System, slices, parts, tests}
 use Rattle.inputs.specs.Code.{Sound, Ended}
@@ -20,15 +21,15 @@ use Rattle.inputs.proofs.Place.{proper_sound}
 -- ---- tests 1 and 2
 module _ (s : System) (l : ℕ) where
   module _ (rest : Test) where
-    pub size_stops : {o : Outcome} → sized s.size ≡ Fail o → Fail o ≡ both (sizes s.size (slices s l)) rest
+    pub size_stops : {o : Refusal} → sized s.size ≡ Err o → Err o ≡ both (sizes s.size (slices s l)) rest
     unfolding sizes both
     size_stops e = rw e
 
-    pub lengths_stop : {o : Outcome} → sized s.size ≡ Pass → lengths (slices s l) ≡ Fail o → Fail o ≡ both (sizes s.size (slices s l)) rest
+    pub lengths_stop : {o : Refusal} → sized s.size ≡ Ok tt → lengths (slices s l) ≡ Err o → Err o ≡ both (sizes s.size (slices s l)) rest
     unfolding sizes both
     lengths_stop e f = rw (e, f)
 
-    pub sizes_go : sized s.size ≡ Pass → lengths (slices s l) ≡ Pass → rest ≡ both (sizes s.size (slices s l)) rest
+    pub sizes_go : sized s.size ≡ Ok tt → lengths (slices s l) ≡ Ok tt → rest ≡ both (sizes s.size (slices s l)) rest
     unfolding sizes both
     sizes_go e f = rw (e, f)
 
@@ -40,7 +41,7 @@ module _ (s : System) (l : ℕ) where
     pub right : length s.right ≡ 2 * s.size
     pub box : l ≡ 2 * s.size
 
-  pub fitting : sized s.size ≡ Pass → lengths (slices s l) ≡ Pass → Fitting
+  pub fitting : sized s.size ≡ Ok tt → lengths (slices s l) ≡ Ok tt → Fitting
   unfolding lengths
   fitting e f =
       let g = both_pass _ _ f in
@@ -50,31 +51,31 @@ module _ (s : System) (l : ℕ) where
       record {
         some = n.0;
         few = n.1;
-        matrix = eqb-true _ _ (need_pass _ (outcome.Length 1) g.0);
-        right = eqb-true _ _ (need_pass _ (outcome.Length 2) h.0);
-        box = eqb-true _ _ (need_pass _ (outcome.Length 3) k.0);
+        matrix = eqb-true _ _ (need_pass _ (refusal.Length 1) g.0);
+        right = eqb-true _ _ (need_pass _ (refusal.Length 2) h.0);
+        box = eqb-true _ _ (need_pass _ (refusal.Length 3) k.0);
       }
 
-  pub sizes_fitting : sizes s.size (slices s l) ≡ Pass → Fitting
+  pub sizes_fitting : sizes s.size (slices s l) ≡ Ok tt → Fitting
   unfolding sizes
   sizes_fitting e = let f = both_pass _ _ e in fitting f.0 f.1
 
 -- ---- test 3 through matrix and right side; where nothing follows, the right side's is the last
-pub right_last : (s : System) → proper s.matrix (s.size * s.size) 0 0 ≡ Pass → proper s.right s.size 0 (s.size * s.size) ≡ all_proper 0 (parts s [])
+pub right_last : (s : System) → proper s.matrix (s.size * s.size) 0 0 ≡ Ok tt → proper s.right s.size 0 (s.size * s.size) ≡ all_proper 0 (parts s [])
 unfolding all_proper both
 right_last s e = rw (e, zero-add (s.size * s.size)) (both_last _)
 
 module _ (s : System) (ps : List Part) where
-  pub matrix_stops : {o : Outcome} → proper s.matrix (s.size * s.size) 0 0 ≡ Fail o → Fail o ≡ all_proper 0 (parts s ps)
+  pub matrix_stops : {o : Refusal} → proper s.matrix (s.size * s.size) 0 0 ≡ Err o → Err o ≡ all_proper 0 (parts s ps)
   unfolding all_proper both
   matrix_stops e = rw e
 
-  module _ (e : proper s.matrix (s.size * s.size) 0 0 ≡ Pass) where
-    pub right_stops : {o : Outcome} → proper s.right s.size 0 (s.size * s.size) ≡ Fail o → Fail o ≡ all_proper 0 (parts s ps)
+  module _ (e : proper s.matrix (s.size * s.size) 0 0 ≡ Ok tt) where
+    pub right_stops : {o : Refusal} → proper s.right s.size 0 (s.size * s.size) ≡ Err o → Err o ≡ all_proper 0 (parts s ps)
     unfolding all_proper both
     right_stops f = rw (e, zero-add (s.size * s.size), f)
 
-    pub parts_go : proper s.right s.size 0 (s.size * s.size) ≡ Pass → all_proper (s.size * s.size + s.size) ps ≡ all_proper 0 (parts s ps)
+    pub parts_go : proper s.right s.size 0 (s.size * s.size) ≡ Ok tt → all_proper (s.size * s.size + s.size) ps ≡ all_proper 0 (parts s ps)
     unfolding all_proper both
     parts_go f = rw (e, zero-add (s.size * s.size), f)
 
@@ -82,9 +83,9 @@ module _ (s : System) (ps : List Part) where
   pub record Proper : Type 0 where
     pub matrix : Sound s.matrix
     pub right : Sound s.right
-    pub rest : all_proper (0 + s.size * s.size + s.size) ps ≡ Pass
+    pub rest : all_proper (0 + s.size * s.size + s.size) ps ≡ Ok tt
 
-  pub parts_proper : {l : ℕ} → Fitting s l → all_proper 0 (parts s ps) ≡ Pass → Proper
+  pub parts_proper : {l : ℕ} → Fitting s l → all_proper 0 (parts s ps) ≡ Ok tt → Proper
   unfolding all_proper
   parts_proper g e =
       let m = both_pass _ _ e in
@@ -95,31 +96,36 @@ module _ (s : System) (ps : List Part) where
         rest = r.1;
       }
 
+-- ---- tests 1 and 2, one after the other
+module _ (n : ℕ) (ss : List Slice) where
+  pub sizes_stop : {o : Refusal} → sized n ≡ Err o → Err o ≡ sizes n ss
+  unfolding sizes both
+  sizes_stop e = rw e
+
+  pub sizes_last : sized n ≡ Ok tt → lengths ss ≡ sizes n ss
+  unfolding sizes both
+  sizes_last e = rw e
+
 -- ---- the tests, one after the other, and what they say when they pass
 module _ (s : System) (l : ℕ) where
-  pub tests_size : {o : Outcome} → sized s.size ≡ Fail o → Fail o ≡ tests s l
-  unfolding tests
-  tests_size e = size_stops s l _ e
+  pub tests_sizes : {o : Refusal} → sizes s.size (slices s l) ≡ Err o → Err o ≡ tests s l
+  unfolding tests both
+  tests_sizes e = rw e
 
-  module _ (e : sized s.size ≡ Pass) where
-    pub tests_lengths : {o : Outcome} → lengths (slices s l) ≡ Fail o → Fail o ≡ tests s l
-    unfolding tests
-    tests_lengths f = lengths_stop s l _ e f
+  module _ (e : sizes s.size (slices s l) ≡ Ok tt) where
+    pub tests_matrix : {o : Refusal} → proper s.matrix (s.size * s.size) 0 0 ≡ Err o → Err o ≡ tests s l
+    unfolding tests both
+    tests_matrix g = matrix_stops s [] g ∙ rw e
 
-    module _ (f : lengths (slices s l) ≡ Pass) where
-      pub tests_matrix : {o : Outcome} → proper s.matrix (s.size * s.size) 0 0 ≡ Fail o → Fail o ≡ tests s l
-      unfolding tests
-      tests_matrix g = matrix_stops s [] g ∙ sizes_go s l _ e f
-
-      pub tests_right : proper s.matrix (s.size * s.size) 0 0 ≡ Pass → proper s.right s.size 0 (s.size * s.size) ≡ tests s l
-      unfolding tests
-      tests_right g = right_last s g ∙ sizes_go s l _ e f
+    pub tests_right : proper s.matrix (s.size * s.size) 0 0 ≡ Ok tt → proper s.right s.size 0 (s.size * s.size) ≡ tests s l
+    unfolding tests both
+    tests_right g = right_last s g ∙ rw e
 
   pub record Ready : Type 0 where
     pub fitting : Fitting s l
     pub proper : Proper s []
 
-  pub ready : tests s l ≡ Pass → Ready
+  pub ready : tests s l ≡ Ok tt → Ready
   unfolding tests
   ready e =
       let b = both_pass _ _ e in
@@ -128,10 +134,10 @@ module _ (s : System) (l : ℕ) where
 
 -- ---- a call, after its tests
 module _ (t : Test) (r : Run (List ℤ)) (x : List ℤ) where
-  pub call_runs : {o : Outcome} {y : List ℤ} → t ≡ Pass → Ended r o x y → Ended (tested t r) o x y
+  pub call_runs : {o : Result (Unit {0}) Refusal} {y : List ℤ} → t ≡ Ok tt → Ended r o x y → Ended (tested t r) o x y
   unfolding tested
   call_runs e h = rw e h
 
-  pub call_fails : {o : Outcome} → t ≡ Fail o → Ended (tested t r) o x x
+  pub call_fails : {o : Refusal} → t ≡ Err o → Ended (tested t r) (Err o) x x
   unfolding tested ended
   call_fails e = record { is = rw e }

@@ -1,8 +1,8 @@
 -- Document 01, Bounds in units: 'A matrix is lent as 2·n·n numbers, row by row, each interval lower then upper. A vector or box
 -- is 2·n numbers.'
 use Rattle.std.specs.Prelude.{List, [], ◌∷◌, ℕ, ◌*◌, ℤ, length}
-use Rattle.inputs.specs.declared.Test.{Test}
-use Rattle.inputs.specs.Tests.{both, Slice, slice, sizes, Part, all_proper}
+use Rattle.inputs.specs.declared.Slice.{Slice}
+use Rattle.inputs.specs.Tests.{Test, both, slice, sizes, Part, all_proper}
 
 -- what is lent to a call besides its box
 pub record System : Type 0 where

@@ -1,39 +1,37 @@
 -- Document 01, Outcomes: the tests 1, 2 and 3 that precede every calculation. 'Each test before the calculation returns the
 -- lowest place at which it fails.'
-use Rattle.std.specs.Prelude.{Bool, cond, ◌&&◌, List, [], ◌∷◌, ℕ, zero, suc, ◌+◌, leb, eqb, ℤ}
-use Rattle.outcome.specs.declared.Outcome.{Outcome}
-use Rattle.outcome.specs.declared.Outcome.TheVariants as outcome
+use Rattle.std.specs.Prelude.{Bool, cond, ◌&&◌, List, [], ◌∷◌, ℕ, zero, suc, ◌+◌, leb, eqb, ℤ, Result, Ok, Err}
+use Rattle.outcome.specs.declared.Refusal.{Refusal}
+use Rattle.outcome.specs.declared.Refusal.TheVariants as refusal
 use Rattle.outcome.specs.Run.{Run, refused}
 use Rattle.interval.specs.Interval.{acceptable}
-use Rattle.inputs.specs.declared.Test.{Test}
-use Rattle.inputs.specs.declared.Test.TheVariants.{Pass, Fail}
+use Rattle.inputs.specs.declared.Slice.{Slice}
 use Rattle.inputs.specs.Place.{at}
+
+-- what a test before a calculation says: nothing, or why the call is refused
+abbrev pub Test : Type 0
+Test = Result (Unit {0}) Refusal
 
 -- a second test counts where the first passes
 unfoldable pub both : Test → Test → Test
-both Pass t = t
-both (Fail o) t = Fail o
+both (Ok _) t = t
+both (Err o) t = Err o
 
-unfoldable pub need : Bool → Outcome → Test
-need ok o = cond ok Pass (Fail o)
+unfoldable pub need : Bool → Refusal → Test
+need ok o = cond ok (Ok tt) (Err o)
 
 -- 'n is 0 or above 32'
 unfoldable pub sized : ℕ → Test
-sized n = need (leb 1 n && leb n 32) outcome.Size
+sized n = need (leb 1 n && leb n 32) refusal.Size
 
 -- a lent slice: its place in the table, how many numbers it holds, how many are wanted
-pub record Slice : Type 0 where
-  pub place : ℕ
-  pub held : ℕ
-  pub wanted : ℕ
-
 abbrev pub slice : (place held wanted : ℕ) → Slice
 slice p h w = record { place = p; held = h; wanted = w }
 
 -- 'that slice has the wrong length; lowest place first'
 unfoldable pub lengths : List Slice → Test
-lengths [] = Pass
-lengths (s ∷ ss) = both (need (eqb s.held s.wanted) (outcome.Length s.place)) (lengths ss)
+lengths [] = Ok tt
+lengths (s ∷ ss) = both (need (eqb s.held s.wanted) (refusal.Length s.place)) (lengths ss)
 
 -- tests 1 and 2
 unfoldable pub sizes : (n : ℕ) → List Slice → Test
@@ -41,8 +39,8 @@ sizes n ss = both (sized n) (lengths ss)
 
 -- 'ends out of sequence or out of the range; intervals counted from 0': those of t at p, p + 1, .., d of them, at positions from + p and on
 unfoldable pub proper : List ℤ → (d p from : ℕ) → Test
-proper t zero p from = Pass
-proper t (suc d) p from = both (need (acceptable (at t p)) (outcome.Ends (from + p))) (proper t d (p + 1) from)
+proper t zero p from = Ok tt
+proper t (suc d) p from = both (need (acceptable (at t p)) (refusal.Ends (from + p))) (proper t d (p + 1) from)
 
 -- 'through matrix, right side, start box': the numbers of several slices, each with its intervals
 pub record Part : Type 0 where
@@ -50,10 +48,10 @@ pub record Part : Type 0 where
   pub count : ℕ
 
 unfoldable pub all_proper : ℕ → List Part → Test
-all_proper from [] = Pass
+all_proper from [] = Ok tt
 all_proper from (s ∷ ss) = both (proper s.numbers s.count 0 from) (all_proper (from + s.count) ss)
 
 -- 'then the calculation'
 unfoldable pub tested : {A : Type 0} → Test → Run A → Run A
-tested Pass r = r
-tested (Fail o) r = refused o
+tested (Ok _) r = r
+tested (Err o) r = refused o

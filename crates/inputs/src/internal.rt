@@ -2,14 +2,13 @@ pub mod copy;
 
 ghost use Rattle.std.specs.Prelude.{◌≡◌, ◌+◌, ◌*◌, ◌≤◌, ◌<◌, length};
 ghost use Rattle.inputs.specs.Place.{at, put};
-ghost use Rattle.inputs.specs.Tests.{sized, lengths, proper};
-ghost use Rattle.inputs.specs.System.{system, tests};
-ghost use Rattle.inputs.specs.Code.{listed};
+ghost use Rattle.inputs.specs.Tests.{sized, lengths, sizes, proper};
+ghost use Rattle.inputs.specs.System.{system, slices, tests};
 
-use crate::Test;
+use crate::Slice;
 use interval::Interval;
 use interval::internal::is_acceptable;
-use outcome::Outcome;
+use outcome::Refusal;
 
 // The interval at position p.
 pub fn read(s: &[i64], p: usize) -> Interval
@@ -35,65 +34,70 @@ pub fn write(s: &mut [i64], p: usize, v: Interval)
 }
 
 // Test 1, of n.
-pub fn size(n: usize) -> Test
+pub fn size(n: usize) -> Result<(), Refusal>
     ensures { result ≡ sized n }
 {
-    if 1 <= n {
-        if n <= 32 {
-            return Test::Pass;
-        }
+    if 1 <= n && n <= 32 {
+        return Ok(());
     }
-    Test::Fail(Outcome::Size)
+    Err(Refusal::Size)
 }
 
-// Test 2, of lent slices: of each its place, the numbers held, the numbers wanted.
-pub fn lengths(slices: &[[usize; 3]]) -> Test
-    requires { length slices.now ≤ 8 }
-    ensures { result ≡ lengths (listed slices.now) }
+// Test 2, of lent slices.
+pub fn lengths(slices: &[Slice]) -> Result<(), Refusal>
+    ensures { result ≡ lengths slices.now }
 {
-    for i in 0..slices.len() {
-        let s = slices[i];
-        if s[1] != s[2] {
-            return Test::Fail(Outcome::Length(s[0]));
+    for s in slices {
+        if s.held != s.wanted {
+            return Err(Refusal::Length(s.place));
         }
     }
-    Test::Pass
+    Ok(())
 }
 
 // Test 3, of the intervals of one slice, whose first position is from.
-pub fn intervals(s: &[i64], count: usize, from: usize) -> Test
+pub fn intervals(s: &[i64], count: usize, from: usize) -> Result<(), Refusal>
     requires { (2 * count ≤ length s.now) × (from + count < 65_536) }
     ensures { result ≡ proper s.now count 0 from }
 {
     for p in 0..count {
-        let v = read(s, p);
-        if !is_acceptable(v) {
-            return Test::Fail(Outcome::Ends(from + p));
+        if !is_acceptable(read(s, p)) {
+            return Err(Refusal::Ends(from + p));
         }
     }
-    Test::Pass
+    Ok(())
+}
+
+#[tactic(auto, using(crate::proofs::System::sizes_stop, crate::proofs::System::sizes_last, crate::proofs::Tests::sized_pass, crate::proofs::Tests::square))]
+// Tests 1 and 2 of a matrix, a right side and a box, of which only the lengths count.
+pub fn sizes(n: usize, matrix: &[i64], right: &[i64], bounds: usize) -> Result<(), Refusal>
+    ensures { result ≡ sizes n (slices (system n matrix.now right.now) bounds) }
+{
+    size(n)?;
+    lengths(&[
+        Slice {
+            place: 1,
+            held: matrix.len(),
+            wanted: 2 * (n * n),
+        },
+        Slice {
+            place: 2,
+            held: right.len(),
+            wanted: 2 * n,
+        },
+        Slice {
+            place: 3,
+            held: bounds,
+            wanted: 2 * n,
+        },
+    ])
 }
 
 // Tests 1, 2 and 3 of a matrix, a right side and a box of which only the length counts.
-pub fn tested(n: usize, matrix: &[i64], right: &[i64], bounds: usize) -> Test
+pub fn tested(n: usize, matrix: &[i64], right: &[i64], bounds: usize) -> Result<(), Refusal>
     ensures { result ≡ tests (system n matrix.now right.now) bounds }
 {
-    let s = size(n);
-    if let Test::Fail(o) = s {
-        return Test::Fail(o);
-    }
-    let slices = [
-        [1, matrix.len(), 2 * (n * n)],
-        [2, right.len(), 2 * n],
-        [3, bounds, 2 * n],
-    ];
-    let l = lengths(&slices);
-    if let Test::Fail(o) = l {
-        return Test::Fail(o);
-    }
-    let m = intervals(matrix, n * n, 0);
-    if let Test::Fail(o) = m {
-        return Test::Fail(o);
-    }
+    sizes(n, matrix, right, bounds)?;
+    intervals(matrix, n * n, 0)?;
     intervals(right, n, n * n)
 }

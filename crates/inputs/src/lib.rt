@@ -2,11 +2,10 @@
 
 pub mod internal;
 
-use outcome::Outcome;
-
-// What a test before a calculation says.
+// A lent slice for test 2: its place in document 01's table, the numbers held, the numbers wanted.
 #[derive(Clone, Copy)]
-pub enum Test {
-    Pass,
-    Fail(Outcome),
+pub struct Slice {
+    pub place: usize,
+    pub held: usize,
+    pub wanted: usize,
 }

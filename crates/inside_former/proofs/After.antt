@@ -14,6 +14,7 @@ use Rattle.sweep.specs.Call.{Log, settled, swept, after, sweeps, ending, last}
 use Rattle.sweep.proofs.Changed.{differ_self}
 use Rattle.inside_former.specs.Sweeps.{box_after}
 use Rattle.inside_former.proofs.Inner.{Inner, OnPasses, same_box}
+use Rattle.std.specs.Prelude.{Err}
 
 -- the sweeps end with a 7
 abbrev pub is_emptied : Log → Bool
@@ -59,7 +60,7 @@ module _ (n : ℕ) (p q : List ℤ → Run (List ℤ)) (beside : (X Y : List ℤ
       go : (r : Run (List ℤ)) → p X ≡ r → (t : Run (List ℤ)) → q Y ≡ t → OnPasses n r t → is_emptied (after n Y t (λ Z. sweeps n q k Z)) ≡ false
           → ((X₁ Y₁ : List ℤ) → Inner n X₁ Y₁ → is_emptied (sweeps n q k Y₁) ≡ false → Along n (sweeps n p k X₁) X₁ (sweeps n q k Y₁) Y₁)
           → Along n (after n X r (λ Z. sweeps n p k Z)) X (after n Y t (λ Z. sweeps n q k Z)) Y
-      go r u (refused o) v c e ih = absurd (subst T (sym (eq-eqb (number_and_place o).number 7 c) ∙ e) tt)
+      go r u (refused o) v c e ih = absurd (subst T (sym (eq-eqb (number_and_place (Err o)).number 7 c) ∙ e) tt)
       go (refused o) u (done Y₁) v c e ih = absurd c
       go (done X₁) u (done Y₁) v c e ih =
           let a = goes_on n p k X X₁ u (same_box n h.former c.former) in

@@ -10,8 +10,8 @@ use native.Mathlib.Decide.{ℕ_discrete}
 use lib.Dec.{T}
 use lib.IntN.{ℤ}
 use lib.Signed.{◌≤ℤ◌}
-use Rattle.outcome.specs.declared.Outcome.{Outcome}
-use Rattle.outcome.specs.declared.Outcome.TheVariants as outcome
+use Rattle.outcome.specs.declared.Refusal.{Refusal}
+use Rattle.outcome.specs.declared.Refusal.TheVariants as refusal
 use Rattle.outcome.specs.Table.{number_and_place}
 use Rattle.outcome.specs.Run.{Run, refused, done}
 use Rattle.outcome.proofs.Run.{Refuses, refuses_done, refuses_with, refuses_cond}
@@ -32,14 +32,15 @@ use Rattle.elimination.specs.Call.{none_taken}
 use Rattle.fraction.proofs.Contains.{contains_refl}
 use Rattle.inside_former.proofs.Narrow.{wide_order, difference_narrow, quotient_narrow, range_narrow}
 use Rattle.inside_former.proofs.Working.{working_put, pivots_put, forward_working}
+use Rattle.std.specs.Prelude.{Err}
 
 -- ---- a 6, at this row or at one that is reached later
-abbrev Six : (row : ℕ) → Outcome → Type 0
-Six row o = ((number_and_place o).number ≡ 6) × ((number_and_place o).place ≤ row)
+abbrev Six : (row : ℕ) → Refusal → Type 0
+Six row o = ((number_and_place (Err o)).number ≡ 6) × ((number_and_place (Err o)).place ≤ row)
 
 six_range : (c row : ℕ) (v : Interval) (f : Interval → Run (List ℤ)) → row ≤ c → ((w : Interval) → Refuses (Six c) (f w)) → Refuses (Six c) (in_range_then row v f)
 unfolding in_range_then
-six_range c row v f h k = refuses_cond (Six c) (in_range v) _ _ (k v) (refuses_with (Six c) (outcome.OutOfRange row) (refl, h))
+six_range c row v f h k = refuses_cond (Six c) (in_range v) _ _ (k v) (refuses_with (Six c) (refusal.OutOfRange row) (refl, h))
 
 six_back : (sum : RowSum) (n c i : ℕ) (t : List ℤ) → i ≤ c → Refuses (Six c) (back sum n i t)
 unfolding back
@@ -90,7 +91,7 @@ module _ (n : ℕ) where
   abbrev pub OnRuns : Run (List ℤ) → Run (List ℤ) → Type 0
   OnRuns (done t) (done t₁) = Inner 0 t t₁
   OnRuns (done t) (refused p) = ⊥
-  OnRuns (refused o) r = ((number_and_place o).number ≡ 6) × Refuses (Six (number_and_place o).place) r
+  OnRuns (refused o) r = ((number_and_place (Err o)).number ≡ 6) × Refuses (Six (number_and_place (Err o)).place) r
 
   -- where the former goes on so does the new one, and where the former stops the new one may stop later
   tests : (row : ℕ) (v w : Interval) (f g : Interval → Run (List ℤ)) → Narrow v w → ((u : Interval) → Refuses (Six row) (g u)) →
@@ -98,8 +99,8 @@ module _ (n : ℕ) where
   unfolding in_range_then
   tests row v w f g h s k = go (in_range v) refl (in_range w) refl (six_range row row w g (le_refl row) s)
     where
-      go : (a : Bool) → in_range v ≡ a → (b : Bool) → in_range w ≡ b → Refuses (Six row) (cond b (g w) (refused (outcome.OutOfRange row))) →
-          OnRuns (cond a (f v) (refused (outcome.OutOfRange row))) (cond b (g w) (refused (outcome.OutOfRange row)))
+      go : (a : Bool) → in_range v ≡ a → (b : Bool) → in_range w ≡ b → Refuses (Six row) (cond b (g w) (refused (refusal.OutOfRange row))) →
+          OnRuns (cond a (f v) (refused (refusal.OutOfRange row))) (cond b (g w) (refused (refusal.OutOfRange row)))
       go false e b e₁ s = (refl, s)
       go true e true e₁ s = k e e₁
       go true e false e₁ s = absurd (subst (λ (t : Bool). T t) (sym (range_narrow h e) ∙ e₁) tt)

@@ -6,8 +6,8 @@ use Prim.Native.Nat.{ℕ, zero, suc, ◌+◌}
 use lib.Dec.{eqb}
 use lib.IntN.{ℤ}
 use Rattle.outcome.specs.Run.{Run, done, ended}
-use Rattle.inputs.specs.declared.Test.{Test}
-use Rattle.inputs.specs.declared.Test.TheVariants.{Pass, Fail}
+use Rattle.inputs.specs.Tests.{Test}
+use Rattle.std.specs.Prelude.{Ok, Err}
 use Rattle.inputs.specs.Code.{Sound}
 use Rattle.inputs.specs.Tests.{both, need, proper, all_proper, tested}
 use Rattle.inputs.specs.System.{System}
@@ -34,7 +34,7 @@ narrowed {n} {X} (same e) = subst (λ Y. Narrowed n X Y) e (narrowed_refl n X)
 narrowed (inner h) = h.inside
 
 -- ---- the tests of a call say the same of both
-proper_pass : (t : List ℤ) → Sound t → (d p from : ℕ) → proper t d p from ≡ Pass
+proper_pass : (t : List ℤ) → Sound t → (d p from : ℕ) → proper t d p from ≡ Ok tt
 unfolding proper need both
 proper_pass t h zero p from = refl
 proper_pass t h (suc d) p from = rw (h.each p) (proper_pass t h d (p + 1) from)
@@ -67,11 +67,11 @@ module _ (s : System) (p q : List ℤ → Run (List ℤ))
           (record { former = w.box; new = w.box; former_sound = w.box_sound; new_sound = w.box_sound; inside = narrowed_refl n X })
       as_inner w (inner h) = h
 
-      go : (t : Test) → tests s k X ≡ t → (tests s k X ≡ Pass → Ready n s.matrix s.right X) → Carried n X Y
+      go : (t : Test) → tests s k X ≡ t → (tests s k X ≡ Ok tt → Ready n s.matrix s.right X) → Carried n X Y
           → eqb (ended (concluded Y) Y (tested t (done (sweeps n q k Y)))).number 7 ≡ false
           → Called n (tested t (done (sweeps n p k X))) X (tested t (done (sweeps n q k Y))) Y
-      go (Fail o) f w h e = record { not_empty = refused_not_empty s k X f; boxes = λ j. narrowed h; left = h }
-      go Pass f w h e =
+      go (Err o) f w h e = record { not_empty = refused_not_empty s k X f; boxes = λ j. narrowed h; left = h }
+      go (Ok _) f w h e =
           let r = sweeps_inner n p q (beside X (w f)) k X Y (as_inner (w f) h) e in
           record { not_empty = r.not_new; boxes = λ j. (r.boxes j).inside; left = inner (r.lefts X Y) }
 

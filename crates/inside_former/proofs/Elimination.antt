@@ -7,10 +7,10 @@ use native.Mathlib.Omega.{arith}
 use native.Mathlib.Nat.{le_refl}
 use lib.IntN.{ℤ}
 use lib.ListN.{length}
-use Rattle.outcome.specs.declared.Outcome.{Outcome}
+use Rattle.outcome.specs.declared.Refusal.{Refusal}
 use Rattle.outcome.specs.Run.{Run, refused, done, and_then, Returned, written, ended}
-use Rattle.inputs.specs.declared.Test.{Test}
-use Rattle.inputs.specs.declared.Test.TheVariants.{Pass, Fail}
+use Rattle.inputs.specs.Tests.{Test}
+use Rattle.std.specs.Prelude.{Ok, Err}
 use Rattle.inputs.specs.Tests.{tested}
 use Rattle.inputs.specs.System.{System, tests}
 use Rattle.inputs.proofs.System.{ready}
@@ -53,10 +53,10 @@ module _ (n : ℕ) (X : List ℤ) where
   then_beside (refused o) f g h = beside_same n _
   then_beside (done a) f g h = h a refl
 
-  tested_beside : (t : Test) (a b : Run (List ℤ)) → (t ≡ Pass → Calls a b) → Calls (tested t a) (tested t b)
+  tested_beside : (t : Test) (a b : Run (List ℤ)) → (t ≡ Ok tt → Calls a b) → Calls (tested t a) (tested t b)
   unfolding tested
-  tested_beside Pass a b h = h refl
-  tested_beside (Fail o) a b h = beside_same n _
+  tested_beside (Ok _) a b h = h refl
+  tested_beside (Err o) a b h = beside_same n _
 
   back_beside : (a b : Run (List ℤ)) → OnRuns n a b → Calls (and_then a (λ t. done (box n t))) (and_then b (λ t. done (box n t)))
   unfolding ended and_then
@@ -92,7 +92,7 @@ module _ (n : ℕ) (X : List ℤ) where
 
 -- ---- the calls
 module _ (s : System) (X : List ℤ) where
-  working : tests s (length X) ≡ Pass → Working s.size (copied s)
+  working : tests s (length X) ≡ Ok tt → Working s.size (copied s)
   working e = copied_working s (length X) (ready s (length X) e)
 
   beside_A : Beside s.size (ended_A lowest_row singly s X) (ended_A lowest_row once s X)
@@ -107,11 +107,11 @@ module _ (s : System) (X : List ℤ) where
       (λ e. then_beside n X (formed_rows n n 0 (copied s)) _ _ (λ t f. solved_beside n X t (formed_working n n 0 (copied s) t (omega arith) (working e) f)))
 
   -- what is refused before back-substitution
-  same_A : (o : Outcome) → forward_A s ≡ refused o → ended_A lowest_row once s X ≡ ended_A lowest_row singly s X
+  same_A : (o : Refusal) → forward_A s ≡ refused o → ended_A lowest_row once s X ≡ ended_A lowest_row singly s X
   unfolding run_A solved and_then
   same_A o e = rw e
 
-  same_B : (o : Outcome) → forward_B s ≡ refused o → ended_B lowest_row once s X ≡ ended_B lowest_row singly s X
+  same_B : (o : Refusal) → forward_B s ≡ refused o → ended_B lowest_row once s X ≡ ended_B lowest_row singly s X
   unfolding run_B solved and_then
   same_B o e = ap (λ r. ended written X (tested (tests s (length X)) r)) (go (formed_rows s.size s.size 0 (copied s)) e)
     where

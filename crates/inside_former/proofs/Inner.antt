@@ -21,6 +21,7 @@ use Rattle.outcome.specs.Table.{number_and_place}
 use Rattle.sweep.specs.Pass.{differs, differ}
 use Rattle.accuracy.specs.Claim.{Narrowed}
 use Rattle.fraction.proofs.Contains.{contains_refl}
+use Rattle.std.specs.Prelude.{Err}
 
 -- Y lies inside X
 pub record Inner (n : ℕ) (X Y : List ℤ) : Type 0 where
@@ -38,7 +39,7 @@ narrow {Y = Y} h j l = record { inside = h.inside.each j l; order = (is_sound (a
 
 -- a pass over the former box, and one over the new: where the new one is whole, so is the former. A pass is refused with 7
 abbrev pub OnPasses : (n : ℕ) → Run (List ℤ) → Run (List ℤ) → Type 0
-OnPasses n p (refused o) = (number_and_place o).number ≡ 7
+OnPasses n p (refused o) = (number_and_place (Err o)).number ≡ 7
 OnPasses n (refused o) (done Y) = ⊥
 OnPasses n (done X) (done Y) = Inner n X Y
 

@@ -12,7 +12,7 @@ use lib.Signed.{◌≤ℤ◌, clash_ℤ}
 use Rattle.integer.specs.Extremes.{minimum, maximum}
 use Rattle.integer.proofs.Order.{trans, taken, left}
 use Rattle.integer.proofs.Extremes.{le_max_left, le_max_right, min_le_left, min_le_right, min_ind, max_ind}
-use Rattle.outcome.specs.declared.Outcome.TheVariants as outcome
+use Rattle.outcome.specs.declared.Refusal.TheVariants as refusal
 use Rattle.outcome.specs.Run.{Run, refused}
 use Rattle.interval.specs.declared.Interval.{Interval}
 use Rattle.interval.specs.Interval.{intersection, is_empty}
@@ -107,7 +107,7 @@ module _ {f g : RowSum} (tighter : Tighter f g) (s : System) (Z : List ℤ) (tes
       new = along g s is (put Y i w)
 
       go : (t : Bool) → is_empty v ≡ t → (u : Bool) → is_empty w ≡ u → Contains v w → (is_empty v ≡ false → is_empty w ≡ false → OnPasses n former new)
-          → OnPasses n (cond t (refused (outcome.Empty (i + 1))) former) (cond u (refused (outcome.Empty (i + 1))) new)
+          → OnPasses n (cond t (refused (refusal.Empty (i + 1))) former) (cond u (refused (refusal.Empty (i + 1))) new)
       go t p true q c k = refl
       go true p false q c k = empty_inside c p q
       go false p false q c k = k p q

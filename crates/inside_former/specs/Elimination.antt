@@ -1,6 +1,6 @@
 -- Document 02, A4: 'Refusal 6 is never new', and the elimination box lies inside the former one.
 use Rattle.std.specs.Prelude.{◌≡◌, ◌≢◌, List, ℕ, ◌≤◌, ℤ}
-use Rattle.outcome.specs.declared.Outcome.{Outcome}
+use Rattle.outcome.specs.declared.Refusal.{Refusal}
 use Rattle.outcome.specs.Run.{Run, refused, and_then, Returned}
 use Rattle.inputs.specs.System.{System}
 use Rattle.rows.specs.Sum.{singly}
@@ -31,5 +31,5 @@ pub record SixNeverNew : Type 0 where
   pub from_A : (s : System) (box : List ℤ) → Beside s.size (ended_A lowest_row singly s box) (over_A s box)
   pub from_B : (s : System) (box : List ℤ) → Beside s.size (ended_B lowest_row singly s box) (over_B s box)
   -- what is refused before back-substitution, with 5 or 6, is refused exactly as before
-  pub as_before_A : (s : System) (box : List ℤ) (o : Outcome) → forward_A s ≡ refused o → over_A s box ≡ ended_A lowest_row singly s box
-  pub as_before_B : (s : System) (box : List ℤ) (o : Outcome) → forward_B s ≡ refused o → over_B s box ≡ ended_B lowest_row singly s box
+  pub as_before_A : (s : System) (box : List ℤ) (o : Refusal) → forward_A s ≡ refused o → over_A s box ≡ ended_A lowest_row singly s box
+  pub as_before_B : (s : System) (box : List ℤ) (o : Refusal) → forward_B s ≡ refused o → over_B s box ≡ ended_B lowest_row singly s box

@@ -5,7 +5,7 @@ use mathlib.Core.List.{List, [], ◌∷◌}
 use Prim.Native.Nat.{ℕ, ◌+◌, ◌<◌}
 use native.Mathlib.Omega.{arith}
 use lib.IntN.{ℤ}
-use Rattle.outcome.specs.declared.Outcome.TheVariants as outcome
+use Rattle.outcome.specs.declared.Refusal.TheVariants as refusal
 use Rattle.outcome.specs.Run.{Run, refused, done, and_then}
 use Rattle.interval.specs.declared.Interval.{Interval}
 use Rattle.interval.specs.Interval.{is_empty}
@@ -45,7 +45,7 @@ module _ (s : System) (Z : List ℤ) (tested : Ready s.size s.matrix s.right Z) 
       v = component once s Y i
 
       go : (t : Bool) → is_empty v ≡ t → (is_empty v ≡ false → OnPasses n (done X) (along once s is (put Y i v)))
-          → OnPasses n (done X) (cond t (refused (outcome.Empty (i + 1))) (along once s is (put Y i v)))
+          → OnPasses n (done X) (cond t (refused (refusal.Empty (i + 1))) (along once s is (put Y i v)))
       go true e k = refl
       go false e k = k e
 

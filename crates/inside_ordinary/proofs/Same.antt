@@ -8,14 +8,14 @@ use native.Mathlib.Decide.{ℕ_discrete}
 use lib.Dec.{eqb}
 use lib.IntN.{ℤ}
 use Rattle.integer.proofs.Order.{antisym}
-use Rattle.outcome.specs.declared.Outcome.TheVariants as outcome
+use Rattle.outcome.specs.declared.Refusal.TheVariants as refusal
 use Rattle.outcome.specs.Table.{number_and_place}
 use Rattle.outcome.specs.Run.{Run, refused, done, and_then, ended}
 use Rattle.outcome.proofs.Run.{never, joined}
 use Rattle.interval.specs.Interval.{is_empty}
 use Rattle.interval.proofs.Range.{same_ends}
-use Rattle.inputs.specs.declared.Test.{Test}
-use Rattle.inputs.specs.declared.Test.TheVariants.{Pass, Fail}
+use Rattle.inputs.specs.Tests.{Test}
+use Rattle.std.specs.Prelude.{Ok, Err}
 use Rattle.inputs.specs.Place.{at, put}
 use Rattle.inputs.specs.Tests as tests
 use Rattle.inputs.proofs.Early.{Early, early_number}
@@ -86,7 +86,7 @@ module _ (s : System) (Z : List ℤ) (tested : Ready s.size s.matrix s.right Z) 
   one_stands {X} h i is l b = go (is_empty (component once s X i)) refl
     where
       go : (t : Bool) → is_empty (component once s X i) ≡ t
-          → cond t (refused (outcome.Empty (i + 1))) (along once s is (put X i (component once s X i))) ≡ done X → Stands X i × (along once s is X ≡ done X)
+          → cond t (refused (refusal.Empty (i + 1))) (along once s is (put X i (component once s X i))) ≡ done X → Stands X i × (along once s is X ≡ done X)
       go true f e = never e
       go false f e =
           let u = put_inner s Z tested h i l f in
@@ -169,8 +169,8 @@ same_settled s k j X = go (tests s k X) refl (early_tests s k X) (tests s j X) r
     go : (t : Test) → tests s k X ≡ t → Early t → (u : Test) → tests s j X ≡ u → Early u
         → (ended (concluded X) X (tests.tested t (done a))).number ≡ 0 → (ended (concluded X) X (tests.tested u (done b))).number ≡ 0
         → (ended (concluded X) X (tests.tested t (done a))).left ≡ (ended (concluded X) X (tests.tested u (done b))).left
-    go (Fail o) f h u g i c d = absurd (omega (arith, early_number h refl, c))
-    go Pass f h (Fail o) g i c d = absurd (omega (arith, early_number i refl, d))
-    go Pass f h Pass g i c d =
+    go (Err o) f h u g i c d = absurd (omega (arith, early_number h refl, c))
+    go (Ok _) f h (Err o) g i c d = absurd (omega (arith, early_number i refl, d))
+    go (Ok _) f h (Ok _) g i c d =
         let w = ready s k X f in
         same_last s X w k j X (record { former = w.box; new = w.box; former_sound = w.box_sound; new_sound = w.box_sound; inside = narrowed_refl n X }) c d

@@ -1,28 +1,21 @@
 -- Minimum and maximum: below both and above both, and no less or more than that; what a test of the code says of them.
-use mathlib.Core.Path.{◌≡◌, sym}
-use mathlib.Core.Bool.{true, false}
+use mathlib.Core.Path.{◌≡◌, refl, sym, subst}
 use mathlib.Core.Logic.{⊎_elim}
 use lib.IntN.{ℤ, neg_ℤ}
-use lib.Signed.{◌≤ℤ◌, ◌<ℤ◌, lt_z, ≤ℤ_refl}
+use Rattle.std.specs.Int.{int_min, int_max}
+use lib.Signed.{◌≤ℤ◌, ◌<ℤ◌, ≤ℤ_refl}
 use Rattle.integer.specs.Extremes.{minimum, maximum}
 use Rattle.integer.proofs.Order.{turn_le, antisym, lt_or_ge, lt_le, yes_lt, no_lt}
 
 module _ (a b : ℤ) where
-  pub min_right : lt_z b a ≡ true → b ≡ minimum a b
+  -- what the library's methods answer
+  pub min_is : int_min a b ≡ minimum a b
   unfolding minimum
-  min_right e = rw e
+  min_is = refl
 
-  pub min_left : lt_z b a ≡ false → a ≡ minimum a b
-  unfolding minimum
-  min_left e = rw e
-
-  pub max_right : lt_z a b ≡ true → b ≡ maximum a b
+  pub max_is : int_max a b ≡ maximum a b
   unfolding maximum
-  max_right e = rw e
-
-  pub max_left : lt_z a b ≡ false → a ≡ maximum a b
-  unfolding maximum
-  max_left e = rw e
+  max_is = refl
 
   -- what holds of each of the two holds of the one chosen
   pub min_ind : (P : ℤ → Type 0) → (b <ℤ a → P b) → (a ≤ℤ b → P a) → P (minimum a b)
@@ -31,7 +24,10 @@ module _ (a b : ℤ) where
 
   pub max_ind : (P : ℤ → Type 0) → (a <ℤ b → P b) → (b ≤ℤ a → P a) → P (maximum a b)
   unfolding maximum
-  max_ind P f g = ⊎_elim (λ (e : a <ℤ b). rw (yes_lt a b e) (f e)) (λ (e : b ≤ℤ a). rw (no_lt a b e) (g e)) (lt_or_ge a b)
+  max_ind P f g = ⊎_elim (λ (e : b <ℤ a). rw (yes_lt b a e) (g (lt_le e))) (λ (e : a ≤ℤ b). rw (no_lt b a e) (high e)) (lt_or_ge b a)
+    where
+      high : a ≤ℤ b → P b
+      high e = ⊎_elim f (λ (k : b ≤ℤ a). subst P (antisym a b e k) (g k)) (lt_or_ge a b)
 
   pub min_le_left : minimum a b ≤ℤ a
   min_le_left = min_ind (λ m. m ≤ℤ a) (λ e. lt_le e) (λ e. ≤ℤ_refl a)

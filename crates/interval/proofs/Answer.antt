@@ -1,20 +1,31 @@
--- What the tests make of an answer.
+-- What the tests of the operands say, and what they make of an answer.
 use mathlib.Core.Path.{◌≡◌}
 use mathlib.Core.Bool.{true, false}
-use Rattle.outcome.specs.declared.Outcome.TheVariants as outcome
+use Rattle.std.specs.Prelude.{Ok, Err}
+use Rattle.outcome.specs.declared.Refusal.TheVariants as refusal
 use Rattle.interval.specs.declared.Interval.{Interval}
-use Rattle.interval.specs.Interval.{acceptable}
-use Rattle.interval.specs.Answer.{Answer, refusal, tested}
+use Rattle.interval.specs.declared.StepRefusal.TheVariants.{BadOperand}
+use Rattle.interval.specs.Interval.{acceptable, contains_zero, quotient}
+use Rattle.interval.specs.Answer.{refused, tested, ranged, divided}
+use Rattle.interval.specs.Code.{Tests}
 
-module _ (x y : Interval) (a : Answer) where
-  pub bad_first : acceptable x ≡ false → refusal (outcome.Ends 0) ≡ tested x y a
+module _ (x y : Interval) where
+  pub bad_first : acceptable x ≡ false → Tests x y (Err (BadOperand 0))
   unfolding tested
-  bad_first e = rw e
+  bad_first e = record { is = λ a. rw e }
 
-  pub bad_second : acceptable x ≡ true → acceptable y ≡ false → refusal (outcome.Ends 1) ≡ tested x y a
+  pub bad_second : acceptable x ≡ true → acceptable y ≡ false → Tests x y (Err (BadOperand 1))
   unfolding tested
-  bad_second e f = rw (e, f)
+  bad_second e f = record { is = λ a. rw (e, f) }
 
-  pub passed : (acceptable x ≡ true) × (acceptable y ≡ true) → a ≡ tested x y a
+  pub both_good : acceptable x ≡ true → acceptable y ≡ true → Tests x y (Ok tt)
   unfolding tested
-  passed e = rw (e.0, e.1)
+  both_good e f = record { is = λ a. rw (e, f) }
+
+  pub divided_by_zero : contains_zero y ≡ true → refused (refusal.ContainsZero 0) ≡ divided x y
+  unfolding divided
+  divided_by_zero e = rw e
+
+  pub divided_by_other : contains_zero y ≡ false → ranged (quotient x y) ≡ divided x y
+  unfolding divided
+  divided_by_other e = rw e

@@ -15,12 +15,9 @@ use Rattle.integer.proofs.Rounding.{floor_nonneg}
 use Rattle.integer.proofs.Machine.{fits64, floor_fits, natural_cast, natural_part, natural_read}
 use Rattle.interval.specs.declared.Interval.{Interval}
 use Rattle.interval.specs.Interval.{lowest, highest, least_product, greatest_product}
+use Rattle.interval.specs.Code.{Bounded}
 use Rattle.interval.proofs.Corners.{least_ind, greatest_ind}
 use Rattle.interval.proofs.Range.{Within, Sound}
-
--- how large a product of two ends can be
-abbrev pub Bounded : ℤ → Type 0
-Bounded p = (negsuc 3999999999999999999 ≤ℤ p) × (p ≤ℤ pos 4000000000000000000)
 
 product_bounded : {a b : ℤ} → Within a → Within b → Bounded (a *ℤ b)
 unfolding lowest highest

@@ -6,46 +6,37 @@ ghost use Rattle.interval.specs.Interval.{within, in_range, acceptable, contains
 ghost use Rattle.interval.specs.Code.{Representable};
 
 use crate::Interval;
-use integer::internal::{max_of, min_of};
 
 // A number in the range.
+#[tactic(auto, unfolding(crate::specs::Interval::within, crate::specs::Interval::lowest, crate::specs::Interval::highest))]
 pub fn within(z: i64) -> bool
     ensures { result ≡ within z }
 {
-    if Interval::LOWEST <= z {
-        return z <= Interval::HIGHEST;
-    }
-    false
+    Interval::LOWEST <= z && z <= Interval::HIGHEST
 }
 
 // Both ends are in the range.
+#[tactic(auto, unfolding(crate::specs::Interval::in_range))]
 pub fn in_range(v: Interval) -> bool
     ensures { result ≡ in_range v }
 {
-    if within(v.lo) {
-        return within(v.hi);
-    }
-    false
+    within(v.lo) && within(v.hi)
 }
 
 // The ends are in sequence and in the range.
+#[tactic(auto, unfolding(crate::specs::Interval::acceptable))]
 pub fn is_acceptable(v: Interval) -> bool
     ensures { result ≡ acceptable v }
 {
-    if v.lo <= v.hi {
-        return in_range(v);
-    }
-    false
+    v.lo <= v.hi && in_range(v)
 }
 
 // 0 lies in the interval, its ends included.
+#[tactic(auto, unfolding(crate::specs::Interval::contains_zero))]
 pub fn contains_zero(v: Interval) -> bool
     ensures { result ≡ contains_zero v }
 {
-    if v.lo <= 0 {
-        return 0 <= v.hi;
-    }
-    false
+    v.lo <= 0 && 0 <= v.hi
 }
 
 // The sum and the difference, without a range test.
@@ -71,13 +62,10 @@ pub fn difference(x: Interval, y: Interval) -> Interval
 pub fn intersection(x: Interval, y: Interval) -> Interval
     ensures { result ≡ intersection x y }
 {
-    let a = x.lo;
-    let b = x.hi;
-    let c = y.lo;
-    let d = y.hi;
-    let lo = max_of(a, c);
-    let hi = min_of(b, d);
-    Interval { lo, hi }
+    Interval {
+        lo: x.lo.max(y.lo),
+        hi: x.hi.min(y.hi),
+    }
 }
 
 // Nothing lies in the interval.

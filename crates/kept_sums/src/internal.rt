@@ -1,74 +1,42 @@
-ghost use Rattle.std.specs.Prelude.{◌≡◌, true, ◌+◌, ◌*◌, ◌<◌, pos, ◌+ℤ◌, ◌-ℤ◌, length};
+ghost use Rattle.std.specs.Prelude.{◌≡◌, true, ◌+◌, ◌*◌, ◌<◌, length};
 ghost use Rattle.wide_sum.specs.Wide.{held, held_both};
 ghost use Rattle.wide_sum.specs.Code.{Near, NearBoth};
-ghost use Rattle.kept_sums.specs.Kept.{shift, end_at, put_end, sum_at, put_sum, end_ready, sum_ready};
+ghost use Rattle.kept_sums.specs.Kept.{end_at, put_end, sum_at, put_sum, end_ready, sum_ready};
 
 use wide_sum::{Wide, WideInterval};
-
-// −2^63, and 2^63.
-const LOWEST: i64 = -9_223_372_036_854_775_808;
-
-const REST: u64 = 9_223_372_036_854_775_808;
 
 // From −8 to 8 is the high number of an end.
 const LEAST: i64 = -8;
 
 const MOST: i64 = 8;
 
-// x and 2^63.
-fn lifted(x: i64) -> u64
-    ensures { pos result ≡ x +ℤ shift }
-{
-    if x < 0 {
-        return (x - LOWEST) as u64;
-    }
-    x as u64 + REST
-}
-
-// n less 2^63.
-fn sunk(n: u64) -> i64
-    ensures { result ≡ pos n -ℤ shift }
-{
-    if n < REST {
-        return n as i64 + LOWEST;
-    }
-    (n - REST) as i64
-}
-
+#[tactic(auto, unfolding(crate::specs::Kept::end_ready))]
 // Whether the two numbers from p on can be an end.
 fn end_ready(s: &[i64], p: usize) -> bool
     requires { p + 1 < length s.now }
     ensures { result ≡ end_ready s.now p }
 {
-    let high = s[p];
-    if LEAST <= high {
-        return high <= MOST;
-    }
-    false
+    LEAST <= s[p] && s[p] <= MOST
 }
 
+#[tactic(auto, unfolding(crate::specs::Kept::sum_ready))]
 // Whether the numbers at position i can be a sum.
 pub fn sum_ready(s: &[i64], i: usize) -> bool
     requires { 4 * i + 3 < length s.now }
     ensures { result ≡ sum_ready s.now i }
 {
     let p = 4 * i;
-    if end_ready(s, p) {
-        return end_ready(s, p + 2);
-    }
-    false
+    end_ready(s, p) && end_ready(s, p + 2)
 }
 
-// The end from p on.
+// The end from p on: its low number is kept less 2^63.
 fn read_end(s: &[i64], p: usize) -> Wide
     requires { (p + 1 < length s.now) × (end_ready s.now p ≡ true) }
     ensures { (held result ≡ end_at s.now p) × Near 8 result }
 {
-    let high = s[p];
-    let low = s[p + 1];
     Wide {
-        high,
-        low: lifted(low),
+        high: s[p],
+        low: s[p + 1].abs_diff(i64::MIN),
     }
 }
 
@@ -78,9 +46,10 @@ pub fn read_sum(s: &[i64], i: usize) -> WideInterval
     ensures { (held_both result ≡ sum_at s.now i) × NearBoth 8 result }
 {
     let p = 4 * i;
-    let lo = read_end(s, p);
-    let hi = read_end(s, p + 2);
-    WideInterval { lo, hi }
+    WideInterval {
+        lo: read_end(s, p),
+        hi: read_end(s, p + 2),
+    }
 }
 
 // w becomes the end from p on.
@@ -88,10 +57,8 @@ fn write_end(s: &mut [i64], p: usize, w: Wide)
     requires { (p + 1 < length s.old) × Near 1_000 w }
     ensures { s.new ≡ put_end s.old p (held w) }
 {
-    let high = w.high;
-    let low = sunk(w.low);
-    s[p] = high;
-    s[p + 1] = low;
+    s[p] = w.high;
+    s[p + 1] = i64::MIN.saturating_add_unsigned(w.low);
 }
 
 // v becomes the sum at position i.
@@ -100,8 +67,6 @@ pub fn write_sum(s: &mut [i64], i: usize, v: WideInterval)
     ensures { s.new ≡ put_sum s.old i (held_both v) }
 {
     let p = 4 * i;
-    let lo = v.lo;
-    let hi = v.hi;
-    write_end(s, p, lo);
-    write_end(s, p + 2, hi);
+    write_end(s, p, v.lo);
+    write_end(s, p + 2, v.hi);
 }

@@ -1,35 +1,42 @@
--- The tests of a box, one after the other, and what they say when they pass.
-use mathlib.Core.Path.{◌≡◌, refl, sym, subst}
-use mathlib.Core.Bool.{true, false}
+-- The tests of a box as the code makes them, and what they say when they pass.
+use mathlib.Core.Path.{◌≡◌, refl, sym, subst, ◌∙◌}
+use mathlib.Core.Bool.{Bool, true, false, ◌&&◌}
 use mathlib.Core.List.{List}
 use Prim.Native.Nat.{ℕ, ◌*◌, ◌≤◌}
-use borrow.Author.Tests.{eq-eqb, ne_eqb, eqb-true}
-use lib.Dec.{T}
+use borrow.Author.Tests.{eqb-true}
+use lib.Dec.{T, eqb}
 use lib.IntN.{ℤ}
 use lib.ListN.{length}
-use Rattle.outcome.specs.declared.Outcome.{Outcome}
-use Rattle.outcome.specs.declared.Outcome.TheVariants as outcome
-use Rattle.inputs.specs.declared.Test.{Test}
-use Rattle.inputs.specs.declared.Test.TheVariants.{Pass, Fail}
-use Rattle.inputs.specs.Tests.{both, need, sized, lengths, sizes, proper}
+use Rattle.std.specs.Prelude.{Ok, Err, is_ok}
+use Rattle.outcome.specs.declared.Refusal.{Refusal}
+use Rattle.interval.proofs.Range.{and_both}
+use Rattle.inputs.specs.Tests.{Test, both, need, sized, lengths, sizes, proper}
 use Rattle.inputs.specs.Code.{Sound}
-use Rattle.inputs.proofs.Tests.{both_pass, need_pass, sized_pass}
+use Rattle.inputs.proofs.Tests.{sized_pass}
 use Rattle.inputs.proofs.Place.{proper_sound}
-use Rattle.narrower.specs.Choice.{passes, is_box}
+use Rattle.narrower.specs.Choice.{is_box}
+
+passed : (t : Test) → is_ok t ≡ true → t ≡ Ok tt
+passed (Ok _) e = refl
+passed (Err o) e = absurd (subst T (sym e) tt)
+
+ok_both : (s t : Test) → is_ok (both s t) ≡ (is_ok s && is_ok t)
+unfolding both
+ok_both (Ok _) t = refl
+ok_both (Err o) t = refl
+
+ok_need : (b : Bool) (o : Refusal) → is_ok (need b o) ≡ b
+unfolding need
+ok_need true o = refl
+ok_need false o = refl
+
+pub few : (n : ℕ) → is_ok (sized n) ≡ true → n ≤ 32
+few n e = (sized_pass n (passed _ e)).1
 
 module _ (n : ℕ) (X : List ℤ) where
-  pub size_fails : {o : Outcome} → sized n ≡ Fail o → false ≡ is_box n X
-  unfolding is_box passes sizes both
-  size_fails e = rw e
-
-  module _ (e : sized n ≡ Pass) where
-    pub length_fails : (length X ≡ 2 * n → ⊥) → false ≡ is_box n X
-    unfolding is_box passes sizes lengths need both
-    length_fails f = rw (e, ne_eqb _ _ f)
-
-    pub ends_decide : {t : Test} → length X ≡ 2 * n → t ≡ proper X n 0 0 → passes t ≡ is_box n X
-    unfolding is_box sizes lengths need both
-    ends_decide f g = rw (e, eq-eqb _ _ f, g)
+  pub is_box_by_tests : is_box n X ≡ ((is_ok (sized n) && (eqb (length X) (2 * n) && true)) && is_ok (proper X n 0 0))
+  unfolding is_box sizes lengths
+  is_box_by_tests = simp (ok_both, ok_need)
 
 -- what they say
 pub record Box (n : ℕ) (X : List ℤ) : Type 0 where
@@ -37,15 +44,9 @@ pub record Box (n : ℕ) (X : List ℤ) : Type 0 where
   pub long : length X ≡ 2 * n
   pub sound : Sound X
 
-passes_pass : (t : Test) → passes t ≡ true → t ≡ Pass
-unfolding passes
-passes_pass Pass e = refl
-passes_pass (Fail o) e = absurd (subst T (sym e) tt)
-
 pub is_a_box : (n : ℕ) (X : List ℤ) → is_box n X ≡ true → Box n X
-unfolding is_box sizes lengths
 is_a_box n X e =
-    let b = both_pass _ _ (passes_pass _ e) in
-    let s = both_pass _ _ b.0 in
-    let l = eqb-true _ _ (need_pass _ (outcome.Length 3) (both_pass _ _ s.1).0) in
-    record { few = (sized_pass n s.0).1; long = l; sound = proper_sound X n 0 l b.1 }
+    let b = and_both _ _ (sym (is_box_by_tests n X) ∙ e) in
+    let s = and_both _ _ b.0 in
+    let l = eqb-true _ _ (and_both _ _ s.1).0 in
+    record { few = few n s.0; long = l; sound = proper_sound X n 0 l (passed _ b.1) }

@@ -1,21 +1,15 @@
 -- Document 02, A2: 'A call over n and two lent boxes hands back the one with the smaller sum of widths, itself and no copy.'
-use Rattle.std.specs.Prelude.{◌≡◌, Bool, true, false, cond, List, [], ◌∷◌, ℕ, ◌*◌, ℤ, length}
+use Rattle.std.specs.Prelude.{◌≡◌, Bool, cond, List, [], ◌∷◌, ℕ, ◌*◌, ℤ, length, is_ok}
 use Rattle.std.specs.Borrow.{Bor}
 use Rattle.std.specs.Int.Signed.{lt_z}
-use Rattle.inputs.specs.declared.Test.{Test}
-use Rattle.inputs.specs.declared.Test.TheVariants.{Pass, Fail}
 use Rattle.inputs.specs.Place.{widths}
 use Rattle.inputs.specs.Tests.{both, slice, sizes, proper}
 use Rattle.narrower.specs.declared.Choice.{Choice}
 use Rattle.narrower.specs.declared.Choice.TheVariants.{Neither, First, Second}
 
-unfoldable pub passes : Test → Bool
-passes Pass = true
-passes (Fail o) = false
-
 -- X does not fail '01's test 1, 2 or 3'; a box is slice 3 of 01's table
 unfoldable pub is_box : (n : ℕ) → List ℤ → Bool
-is_box n X = passes (both (sizes n (slice 3 (length X) (2 * n) ∷ [])) (proper X n 0 0))
+is_box n X = is_ok (both (sizes n (slice 3 (length X) (2 * n) ∷ [])) (proper X n 0 0))
 
 -- 'the one with the smaller sum of widths', 'The first wins at a tie'
 unfoldable pub by_widths : (n : ℕ) → List ℤ → List ℤ → Choice

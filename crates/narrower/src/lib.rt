@@ -8,7 +8,7 @@ ghost use Rattle.narrower.specs.Choice.{choice_number, chosen, Handed};
 use crate::internal::choose;
 
 // Which of two boxes is the narrower. These are no outcomes: their numbers are not in document 01's table.
-#[derive(Clone, Copy)]
+#[derive(Clone, Copy, Debug, PartialEq, Eq)]
 pub enum Choice {
     Neither,
     First,
@@ -28,6 +28,7 @@ impl Choice {
     }
 }
 
+#[tactic(auto, unfolding(crate::specs::Choice::Handed))]
 // The lent box with the smaller sum of widths, itself; an empty part of the first where neither is a box of n components.
 pub fn narrower<'a>(n: usize, first: &'a [i64], second: &'a [i64]) -> &'a [i64]
     ensures { Handed (chosen n first.now second.now) first.entry second.entry result }

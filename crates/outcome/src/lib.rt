@@ -3,13 +3,21 @@
 ghost use Rattle.std.specs.Prelude.{◌≡◌};
 ghost use Rattle.outcome.specs.Table.{number_and_place};
 
-// How a call ends: document 01, Outcomes, with the numbers that document 02 adds: 10 in A2, 19 and 20 in A6, 11 and 12 in A7. Each case carries the place that its row of the table names; number_and_place, in specs/, gives the numbers.
+// How a call ends: document 01, Outcomes, with the numbers that document 02 adds: 10 in A2, 19 and 20 in A6, 11 and 12 in A7. number_and_place, in specs/, gives the numbers.
 // The count of sweeps stands beside an outcome, not in it.
-#[derive(Clone, Copy)]
-pub enum Outcome {
+pub type Outcome = Result<Ending, Refusal>;
+
+// How a call ends that is not refused.
+#[derive(Clone, Copy, Debug, PartialEq, Eq)]
+pub enum Ending {
     // done, or settled
     Done,
     Spent,
+}
+
+// Why a call is refused, with the place that its row of the table names.
+#[derive(Clone, Copy, Debug, PartialEq, Eq)]
+pub enum Refusal {
     // n is 0 or above 32
     Size,
     // a slice has the wrong length: 1 matrix, 2 right side, 3 box or sheet
@@ -38,50 +46,48 @@ pub enum Outcome {
     OutOfOrder(usize),
 }
 
-impl Outcome {
-    // the number that document 01 gives it
-    pub fn number(self) -> u64
-        ensures { result ≡ (number_and_place self).number }
-    {
-        match self {
-            Outcome::Done => 0,
-            Outcome::Spent => 9,
-            Outcome::Size => 1,
-            Outcome::Length(_) => 2,
-            Outcome::Allowed => 4,
-            Outcome::Ends(_) => 3,
-            Outcome::ContainsZero(_) => 5,
-            Outcome::OutOfRange(_) => 6,
-            Outcome::Empty(_) => 7,
-            Outcome::Text(_) => 8,
-            Outcome::Sums => 10,
-            Outcome::NotDue => 19,
-            Outcome::NoComponent => 20,
-            Outcome::OutOfMatrix(_) => 11,
-            Outcome::OutOfOrder(_) => 12,
-        }
+// The number that document 01 gives an outcome.
+pub fn number(outcome: Outcome) -> u64
+    ensures { result ≡ (number_and_place outcome).number }
+{
+    match outcome {
+        Ok(Ending::Done) => 0,
+        Ok(Ending::Spent) => 9,
+        Err(Refusal::Size) => 1,
+        Err(Refusal::Length(_)) => 2,
+        Err(Refusal::Allowed) => 4,
+        Err(Refusal::Ends(_)) => 3,
+        Err(Refusal::ContainsZero(_)) => 5,
+        Err(Refusal::OutOfRange(_)) => 6,
+        Err(Refusal::Empty(_)) => 7,
+        Err(Refusal::Text(_)) => 8,
+        Err(Refusal::Sums) => 10,
+        Err(Refusal::NotDue) => 19,
+        Err(Refusal::NoComponent) => 20,
+        Err(Refusal::OutOfMatrix(_)) => 11,
+        Err(Refusal::OutOfOrder(_)) => 12,
     }
+}
 
-    // the place returned with it
-    pub fn place(self) -> usize
-        ensures { result ≡ (number_and_place self).place }
-    {
-        match self {
-            Outcome::Done => 0,
-            Outcome::Spent => 0,
-            Outcome::Size => 0,
-            Outcome::Length(slice) => slice,
-            Outcome::Allowed => 0,
-            Outcome::Ends(position) => position,
-            Outcome::ContainsZero(pivot) => pivot,
-            Outcome::OutOfRange(row) => row,
-            Outcome::Empty(component) => component,
-            Outcome::Text(line) => line,
-            Outcome::Sums => 0,
-            Outcome::NotDue => 0,
-            Outcome::NoComponent => 0,
-            Outcome::OutOfMatrix(record) => record,
-            Outcome::OutOfOrder(record) => record,
-        }
+// The place returned with it.
+pub fn place(outcome: Outcome) -> usize
+    ensures { result ≡ (number_and_place outcome).place }
+{
+    match outcome {
+        Ok(Ending::Done) => 0,
+        Ok(Ending::Spent) => 0,
+        Err(Refusal::Size) => 0,
+        Err(Refusal::Length(slice)) => slice,
+        Err(Refusal::Allowed) => 0,
+        Err(Refusal::Ends(position)) => position,
+        Err(Refusal::ContainsZero(pivot)) => pivot,
+        Err(Refusal::OutOfRange(row)) => row,
+        Err(Refusal::Empty(component)) => component,
+        Err(Refusal::Text(line)) => line,
+        Err(Refusal::Sums) => 0,
+        Err(Refusal::NotDue) => 0,
+        Err(Refusal::NoComponent) => 0,
+        Err(Refusal::OutOfMatrix(record)) => record,
+        Err(Refusal::OutOfOrder(record)) => record,
     }
 }

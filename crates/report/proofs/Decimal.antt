@@ -7,9 +7,13 @@ use native.Mathlib.Omega.{arith}
 use native.Mathlib.Nat.{pow-suc}
 use borrow.Author.Tests.{lt-ltb, ltb-true, ltb-false}
 use lib.Dec.{ltb}
+use lib.IntN.{ℤ, pos, negsuc}
+use mir.Syntax.{w64}
+use mir.Val.{SFits}
 use lib.ListN.{length, length-append}
-use Rattle.std.specs.Fmt.{decimal}
+use Rattle.std.specs.Fmt.{decimal, signed_decimal}
 use Rattle.std.proofs.lemmas.Fmt.{decimal_digit, decimal_step}
+use Rattle.report.specs.Decimal as report
 use Rattle.report.specs.Decimal.{digit, digits_within, natural}
 
 -- a number without its last digit
@@ -26,15 +30,6 @@ few_digits (suc d) k n h = go k h (ltb n 10) refl (λ k. few_digits d k (n / 10)
     go k h true e less = omega arith
     go zero h false e less = absurd (omega (arith, ltb-false n 10 e))
     go (suc k) h false e less = simp length-append (omega (arith, less k (tenth n (suc k) h)))
-
-pub natural_few : (n : ℕ) → n < 2 ^ 64 → length (natural n) ≤ 20
-unfolding natural
-natural_few n h = few_digits 20 19 n (omega arith)
-
--- beside a '-'
-pub magnitude_few : (n : ℕ) → n ≤ 2 ^ 63 → length (natural n) ≤ 19
-unfolding natural
-magnitude_few n h = few_digits 20 18 n (omega arith)
 
 -- as many as an end of a value of the text may have
 pub value_few : (n : ℕ) → n ≤ 9999999999 → length (natural n) ≤ 10
@@ -54,3 +49,8 @@ same_digits (suc d) n h w = go (ltb n 10) refl (same_digits d (n / 10) (tenth n 
 pub spelled : (n : ℕ) → n < 2 ^ 64 → decimal n ≡ natural n
 unfolding natural
 spelled n h = same_digits 19 n (omega arith) h
+
+pub signed : (z : ℤ) → SFits w64 z → signed_decimal z ≡ report.decimal z
+unfolding report.decimal
+signed (pos n) h = spelled n (omega (arith, h.sfits))
+signed (negsuc n) h = ap (λ s. 45 ∷ s) (spelled (suc n) (omega (arith, h.sfits)))

@@ -3,7 +3,6 @@ use mathlib.Core.Path.{◌≡◌, refl, sym, ap, subst, ◌∙◌}
 use mathlib.Core.Bool.{Bool, true, false, cond, ◌||◌}
 use mathlib.Core.Logic.{◌⊎◌, inl, inr}
 use mathlib.Core.List.{List, [], ◌∷◌, ◌++◌, append-nil}
-use mathlib.Core.Option.{none, some, bind}
 use Prim.Native.Nat.{ℕ, zero, suc, ◌+◌, ◌-◌, ◌*◌, ◌/◌, ◌%◌, ◌^◌, ◌≤◌, ◌<◌}
 use native.Mathlib.Omega.{arith}
 use native.Mathlib.Nat.{mod-lt, div-add-mod'}
@@ -14,6 +13,7 @@ use lib.IntN.{ℤ, pos, negsuc}
 use lib.ListN.{length, get_or, drop, replicate, drop_of_length-le}
 use lib.Seq.{drop-cons}
 use lib.Signed.{le_z}
+use Rattle.std.specs.Prelude.{Some, None}
 use Rattle.outcome.specs.Run.{Run, refused, done, and_then, Returned}
 use Rattle.interval.specs.declared.Interval.{Interval}
 use Rattle.interval.specs.Interval.{lowest, highest}
@@ -41,7 +41,7 @@ unfolding is_digit
 is_digit_lem d h = rw (le-leb 48 (48 + d) (omega arith), le-leb (48 + d) 57 (omega arith))
 
 -- one digit more
-digits_more : (s : List ℕ) (d v w : ℕ) → d < 10 → digits s v ≡ some w → digits (s ++ (digit d ∷ [])) v ≡ some (w * 10 + d)
+digits_more : (s : List ℕ) (d v w : ℕ) → d < 10 → digits s v ≡ Some w → digits (s ++ (digit d ∷ [])) v ≡ Some (w * 10 + d)
 unfolding digits
 digits_more [] d v w h e =
     let f : v ≡ w = cc e in
@@ -49,20 +49,20 @@ digits_more [] d v w h e =
     rw (is_digit_lem d h, g)
 digits_more (b ∷ s) d v w h e = go (is_digit b) refl (digits_more s d (v * 10 + (b - 48)) w h)
   where
-    go : (t : Bool) → is_digit b ≡ t → (digits s (v * 10 + (b - 48)) ≡ some w → digits (s ++ (digit d ∷ [])) (v * 10 + (b - 48)) ≡ some (w * 10 + d))
-        → digits (b ∷ (s ++ (digit d ∷ []))) v ≡ some (w * 10 + d)
+    go : (t : Bool) → is_digit b ≡ t → (digits s (v * 10 + (b - 48)) ≡ Some w → digits (s ++ (digit d ∷ [])) (v * 10 + (b - 48)) ≡ Some (w * 10 + d))
+        → digits (b ∷ (s ++ (digit d ∷ []))) v ≡ Some (w * 10 + d)
     go true f r = let q = r (rw f at e) in rw (f, q)
-    go false f r = let o : none ≡ some w = rw f at e in let z : ◌≡◌ {A = ℕ} 0 1 = cc o in absurd (omega arith)
+    go false f r = let o : None ≡ Some w = rw f at e in let z : ◌≡◌ {A = ℕ} 0 1 = cc o in absurd (omega arith)
 
-digits_back : (d n : ℕ) → n < 10 ^ d → digits (digits_within d n) 0 ≡ some n
+digits_back : (d n : ℕ) → n < 10 ^ d → digits (digits_within d n) 0 ≡ Some n
 unfolding digits digits_within
-digits_back zero n h = ap some (omega arith)
+digits_back zero n h = ap Some (omega arith)
 digits_back (suc d) n h = go (ltb n 10) refl (digits_back d (n / 10) (tenth n d h))
   where
-    go : (t : Bool) → ltb n 10 ≡ t → digits (digits_within d (n / 10)) 0 ≡ some (n / 10)
-        → digits (cond t (digit n ∷ []) (digits_within d (n / 10) ++ (digit (n % 10) ∷ []))) 0 ≡ some n
+    go : (t : Bool) → ltb n 10 ≡ t → digits (digits_within d (n / 10)) 0 ≡ Some (n / 10)
+        → digits (cond t (digit n ∷ []) (digits_within d (n / 10) ++ (digit (n % 10) ∷ []))) 0 ≡ Some n
     go true e r = let g : 0 * 10 + (48 + n - 48) ≡ n = omega arith in rw (is_digit_lem n (ltb-true n 10 e), g)
-    go false e r = digits_more (digits_within d (n / 10)) (n % 10) 0 (n / 10) (mod-lt n (omega arith)) r ∙ ap some (div-add-mod' n 10)
+    go false e r = digits_more (digits_within d (n / 10)) (n % 10) 0 (n / 10) (mod-lt n (omega arith)) r ∙ ap Some (div-add-mod' n 10)
 
 -- ---- the first digit of a number above 0 is above '0'
 first_stays : (s t : List ℕ) → 49 ≤ get_or s 0 0 → 49 ≤ get_or (s ++ t) 0 0
@@ -89,21 +89,25 @@ module _ (m : ℕ) (h : suc m ≤ 9999999999) where
   unfolding natural
   first = first_above 20 (suc m) (omega arith) (omega arith)
 
-  magnitude_back : magnitude (natural (suc m)) ≡ some (suc m)
+  magnitude_back : magnitude (natural (suc m)) ≡ Some (suc m)
   unfolding natural
   magnitude_back =
-      sym (magnitude_digits (natural (suc m)) (not_none (natural (suc m)) first) (value_few (suc m) h) (λ e. omega (arith, first, e)))
+      sym (magnitude_digits (natural (suc m)) (not_none (natural (suc m)) first) (value_few (suc m) h) (inr (λ e. omega (arith, first, e))))
       ∙ digits_back 20 (suc m) (omega arith)
 
-nought_back : number (natural 0) ≡ some (pos 0)
-unfolding number magnitude plain digits is_digit natural digits_within bind
+positive : (s : List ℕ) (m : ℕ) → 49 ≤ get_or s 0 0 → magnitude s ≡ Some m → number s ≡ Some (pos m)
+positive [] m h e = absurd (omega arith)
+positive (b ∷ s) m h e = sym (number_plain refl (λ z. omega (arith, h, z)) (sym e))
+
+nought_back : number (natural 0) ≡ Some (pos 0)
+unfolding number magnitude plain digits is_digit natural digits_within
 nought_back = refl
 
 pub number_back : NumberBack
-unfolding number below decimal bind
+unfolding number below decimal
 number_back (pos zero) h = nought_back
 number_back (pos (suc m)) h =
-    sym (number_plain (natural (suc m)) (some (suc m)) (not_none (natural (suc m)) (first m h)) (λ e. omega (arith, first m h, e)) (magnitude_back m h))
+    positive (natural (suc m)) (suc m) (first m h) (magnitude_back m h)
 number_back (negsuc m) h = rw (magnitude_back m h)
 
 -- ---- b does not stand in a list: so the first b after it is the one that was printed
@@ -175,8 +179,8 @@ decimal_free : (z : ℤ) → Free 58 (decimal z)
 decimal_free z = under_free 58 58 (decimal z) (λ x l u e. omega arith) (decimal_under z)
 
 -- ---- a bound
-bound_back : (v : Interval) → Short v.lo → Short v.hi → value (bound v) ≡ some (v.lo ∷ v.hi ∷ [])
-unfolding value both_ends bound bind
+bound_back : (v : Interval) → Short v.lo → Short v.hi → value (bound v) ≡ Some (v.lo ∷ v.hi ∷ [])
+unfolding value both_ends bound
 bound_back v l u =
     rw (parts_after 58 (decimal v.lo) (decimal v.hi) (decimal_free v.lo), parts_alone 58 (decimal v.hi) (decimal_free v.hi), number_back v.lo l, number_back v.hi u)
 
@@ -188,8 +192,8 @@ pair x p h =
     drop-cons x (2 * p) (pos 0) (omega arith) ∙ rw (e, add-one, drop-cons x (suc (2 * p)) (pos 0) (omega arith))
 
 from_back : (d p : ℕ) (x : List ℤ) → length x ≡ 2 * (p + suc d) → ((q : ℕ) → q < p + suc d → Short (at x q).lo × Short (at x q).hi)
-    → values (suc d) (fields (bounds (suc d) p x)) ≡ some (drop (2 * p) x)
-unfolding values then bounds further bind
+    → values (suc d) (fields (bounds (suc d) p x)) ≡ Some (drop (2 * p) x)
+unfolding values then bounds further
 from_back zero p x l h =
     let f = h p (omega arith) in
     rw (append-nil, parts_alone 59 (bound (at x p)) (bound_free (at x p)), bound_back (at x p) f.0 f.1, pair x p (omega arith), drop_of_length-le x {i = 2 * (p + 1)} (omega arith))
@@ -234,7 +238,7 @@ reached_either s r = go (eqb r.number 0) refl
     go true e k = inl (eqb-true _ 0 e)
     go false e k = inr (eqb-true _ 9 k)
 
-box_back : (s : System) (X : List ℤ) → reached (calculation s X) ≡ true → values s.size (fields (bounds s.size 0 (calculation s X).left)) ≡ some (calculation s X).left
+box_back : (s : System) (X : List ℤ) → reached (calculation s X) ≡ true → values s.size (fields (bounds s.size 0 (calculation s X).left)) ≡ Some (calculation s X).left
 box_back s X h =
     let e = reached_swept s X h in
     let k = call_keeps s (sweep_call 100) (over_B s X).left (rw e at (reached_either s (calculation s X) h)) in

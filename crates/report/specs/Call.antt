@@ -1,15 +1,16 @@
 -- Document 01, The cellar text: 'The program 'balance' reads standard input, eliminates from B and b, sweeps with 100 allowed, and prints'.
-use Rattle.std.specs.Prelude.{◌≡◌, Bool, cond, ◌||◌, List, [], ◌∷◌, ℕ, ◌*◌, ◌≤◌, eqb, ℤ, pos, length, take, replicate}
-use Rattle.outcome.specs.declared.Outcome.TheVariants as outcome
+use Rattle.std.specs.Prelude.{◌≡◌, Bool, cond, ◌||◌, List, [], ◌∷◌, ℕ, ◌*◌, ◌≤◌, eqb, ℤ, pos, length, take, replicate, Result, Ok, Err}
+use Rattle.outcome.specs.declared.Ending.TheVariants.{Done}
+use Rattle.outcome.specs.declared.Refusal.{Refusal}
 use Rattle.outcome.specs.Table.{number_and_place}
 use Rattle.outcome.specs.Run.{Run, refused, done, and_then, Returned, returned, ended}
-use Rattle.inputs.specs.declared.Test.{Test}
-use Rattle.inputs.specs.Tests.{slice, lengths, tested}
+use Rattle.inputs.specs.Tests.{Test, slice, lengths, tested}
 use Rattle.inputs.specs.System.{System}
 use Rattle.elimination.specs.Call.{over_B}
 use Rattle.sweep.specs.Calls.{sweep_call, call}
 use Rattle.text.specs.Text.{Cellar, reading}
 use Rattle.text.specs.Call.{over}
+use Rattle.report.specs.declared.Written.{Written}
 use Rattle.report.specs.Sheet.{settled, spent, calculated, refusal}
 
 -- ---- the calculation, from numbers to number, place, count and box
@@ -37,7 +38,7 @@ unfoldable pub sheet_or_refusal : (names : List ℕ) → (n : ℕ) → Returned 
 sheet_or_refusal names n r = cond (reached r) (sheet names n r) (refusal r.number r.place)
 
 abbrev pub printed_for : Run Cellar → List ℕ
-printed_for (refused o) = refusal (number_and_place o).number (number_and_place o).place
+printed_for (refused o) = refusal (number_and_place (Err o)).number (number_and_place (Err o)).place
 printed_for (done c) = sheet_or_refusal c.names c.balance.size (solved c.balance)
 
 -- every byte that 'balance' prints for a text
@@ -58,6 +59,11 @@ reported names n out r =
       left = cond (reached r) (over (sheet names n r) out) out;
     }
 
+-- the same from the code's answer
+abbrev pub answer_of : {A : Type 0} → Result Written Refusal → A → Returned A
+answer_of (Ok w) a = returned (Ok w.ending) w.count a
+answer_of (Err o) a = returned (Err o) 0 a
+
 -- 8, then 2, then what the calculation returns
 unfoldable pub report : (text out : List ℕ) → Returned (List ℕ)
 report text out =
@@ -66,7 +72,7 @@ report text out =
 
 -- `print`: all that is printed at the beginning of out, refusals too, and the number of its bytes
 unfoldable pub print : (text out : List ℕ) → Returned (List ℕ)
-print text out = ended (λ s. returned outcome.Done (length s) (over s out)) out (tested (room out) (done (printed text)))
+print text out = ended (λ s. returned (Ok Done) (length s) (over s out)) out (tested (room out) (done (printed text)))
 
 -- the first n bytes of xs can be taken, and are n bytes
 abbrev pub IsPrefixLen : ℕ → List ℕ → Type 0

@@ -1,6 +1,4 @@
-// What is printed, put into a lent slice piece by piece.
-pub mod bytes;
+// From the numbers of a balance to what is printed.
 pub mod calculation;
-pub mod decimal;
 pub mod report;
 pub mod sheet;

@@ -27,36 +27,39 @@ use Rattle.rows.proofs.Size.{Small, sum_small, exact_product_small, small_fits}
 pub turned : {a b u v w : Interval} → a ≡ v → b ≡ w → u ≡ exact_product b a → u ≡ exact_product v w
 turned {v = v} {w = w} e f g = g ∙ ap₂ exact_product f e ∙ exchanged v w
 
-module _ (m : List ℤ) (p : ℕ) (x : List ℤ) (q : ℕ) where
+module _ (m : List ℤ) (p : ℕ) (x : List ℤ) (q j : ℕ) where
   abbrev pair : Interval
-  pair = exact_sum (exact_product (at m p) (at x q)) (exact_product (at m (p + 1)) (at x (q + 1)))
+  pair = exact_sum (exact_product (at m (p + j)) (at x (q + j))) (exact_product (at m (p + (j + 1))) (at x (q + (j + 1))))
 
-  pub one_summed : {acc r : WideInterval} {u : Interval} → u ≡ exact_product (at m p) (at x q) → AddedBoth acc u r → Summed acc m p x q 1 r
-  one_summed {acc} e a = record { is = a.is ∙ ap (exact_sum (held_both acc)) e ∙ sym (one_product m p x q (held_both acc)); near = a.near }
+  pub one_summed : {acc r : WideInterval} {u : Interval} → u ≡ exact_product (at m (p + j)) (at x (q + j)) → AddedBoth acc u r → Summed acc m (p + j) x (q + j) 1 r
+  one_summed {acc} e a = record { is = a.is ∙ ap (exact_sum (held_both acc)) e ∙ sym (one_product m (p + j) x (q + j) (held_both acc)); near = a.near }
 
-  pub two_summed : {acc r : WideInterval} {u : Interval} → u ≡ pair → AddedBoth acc u r → Summed acc m p x q 2 r
+  pub two_summed : {acc r : WideInterval} {u : Interval} → u ≡ pair → AddedBoth acc u r → Summed acc m (p + j) x (q + j) 2 r
   two_summed {acc} e a =
+      let f : p + (j + 1) ≡ p + j + 1 = omega arith in
+      let g : q + (j + 1) ≡ q + j + 1 = omega arith in
+      let h = rw (f, g) at e in
       record {
-        is = a.is ∙ ap (exact_sum (held_both acc)) e ∙ sym (two_products m p x q (held_both acc));
+        is = a.is ∙ ap (exact_sum (held_both acc)) h ∙ sym (two_products m (p + j) x (q + j) (held_both acc));
         near = λ k n. near_both_more (omega arith) (a.near k n);
       }
 
   -- two products together fit an i64
   module _ (h : Sound m) (g : Sound x) where
     pair_small : Small (4000000000000000000 + 4000000000000000000) pair
-    pair_small = sum_small (exact_product_small _ _ (h.each p) (g.each q)) (exact_product_small _ _ (h.each (p + 1)) (g.each (q + 1)))
+    pair_small = sum_small (exact_product_small _ _ (h.each (p + j)) (g.each (q + j))) (exact_product_small _ _ (h.each (p + (j + 1))) (g.each (q + (j + 1))))
 
     pub pair_fits : {u : Interval} → u ≡ pair → Representable u
     pair_fits e = subst Representable (sym e) (small_fits (omega arith) pair_small)
 
     -- and are not below 0 if no factor is
-    pub pair_above : {u : Interval} → u ≡ pair → Above (at m p) (at x q) → Above (at m (p + 1)) (at x (q + 1)) → (pos 0 ≤ℤ u.lo) × (pos 0 ≤ℤ u.hi)
+    pub pair_above : {u : Interval} → u ≡ pair → Above (at m (p + j)) (at x (q + j)) → Above (at m (p + (j + 1))) (at x (q + (j + 1))) → (pos 0 ≤ℤ u.lo) × (pos 0 ≤ℤ u.hi)
     unfolding exact_sum exact_product
     pair_above e a b =
-        let v = is_sound _ (h.each p) in
-        let w = is_sound _ (g.each q) in
-        let v' = is_sound _ (h.each (p + 1)) in
-        let w' = is_sound _ (g.each (q + 1)) in
+        let v = is_sound _ (h.each (p + j)) in
+        let w = is_sound _ (g.each (q + j)) in
+        let v' = is_sound _ (h.each (p + (j + 1))) in
+        let w' = is_sound _ (g.each (q + (j + 1))) in
         let l : pos 0 ≤ℤ pair.lo =
         rw (above_least_above v w a.0 a.1, above_least_above v' w' b.0 b.1) (go _ _ _ _ a.0 a.1 b.0 b.1) in
         subst (λ (u : Interval). (pos 0 ≤ℤ u.lo) × (pos 0 ≤ℤ u.hi)) (sym e) (l, trans l pair_small.order)

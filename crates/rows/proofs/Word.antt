@@ -1,26 +1,30 @@
 -- Products of modest shares, and components that are not below 0.
-use mathlib.Core.Path.{◌≡◌, sym}
+use mathlib.Core.Path.{◌≡◌}
 use mathlib.Core.Bool.{true, false}
 use mathlib.Core.List.{List}
 use Prim.Native.Nat.{ℕ, ◌+◌, ◌*◌, ◌≤◌, ◌<◌}
 use native.Mathlib.Omega.{arith}
 use native.Mathlib.Decide.{dec_lt}
+use native.Mathlib.Nat.{zero-add}
 use lib.Dec.{le→leb}
 use lib.IntN.{ℤ, pos, ◌+ℤ◌, ◌*ℤ◌}
 use lib.ListN.{length}
 use lib.Signed.{◌≤ℤ◌, le_z, lt_z, le_z_yes}
 use mir.Syntax.{w64}
-use mir.Val.{SFits}
+use mir.Val.{SFits, to_z, of_z}
+use Rattle.std.specs.List.{AllWithin, range_with_len}
+use Rattle.std.proofs.lemmas.List.FromFn.{length-range_with_len, get_or-range_with_len}
 use Rattle.integer.proofs.Linear.{linear, over}
 use Rattle.integer.proofs.Order.{left, le_taken, trans, also, prod}
 use Rattle.integer.proofs.Machine.{fits64}
 use Rattle.interval.specs.declared.Interval.{Interval}
 use Rattle.interval.specs.Interval.{zero as zeroInterval, lowest, highest, acceptable, exact_sum, exact_product}
 use Rattle.interval.specs.Code.{Representable}
-use Rattle.interval.proofs.Range.{is_sound, sound_accepted}
+use Rattle.interval.proofs.Range.{is_sound, sound_accepted, above_taken}
 use Rattle.interval.proofs.Signs.{above_least_above, above_greatest_above}
 use Rattle.inputs.specs.Place.{at}
 use Rattle.inputs.proofs.Place.{at_past}
+use Rattle.inputs.specs.Code.{Sound}
 use Rattle.rows.specs.Word.{Modest, SumModest, NoneBelow}
 use Rattle.rows.proofs.Size.{acceptable_small}
 
@@ -91,16 +95,15 @@ modest_more {j} {k} {v} h s =
     go = over 3 _ (λ ρ. simp (linear, ρ) (omega arith))
 
 -- ---- components that are not below 0
-pub above_more : (x : List ℤ) (j : ℕ) → ((i : ℕ) → i < j → pos 0 ≤ℤ (at x i).lo) → pos 0 ≤ℤ (at x j).lo → (i : ℕ) → i < j + 1 → pos 0 ≤ℤ (at x i).lo
-above_more x j h e i k = go (dec_lt i j)
-  where
-    go : Dec (i < j) → pos 0 ≤ℤ (at x i).lo
-    go (yes l) = h i l
-    go (no l) = let z : j ≡ i = omega (arith, l, k) in rw (sym z) e
+pub above_read : (x : List ℤ) → Sound x → (j : ℕ) → {v : Interval} → v ≡ at x j → le_z (pos 0) (to_z w64 (of_z w64 v.lo)) ≡ true → pos 0 ≤ℤ (at x j).lo
+above_read x s j e h = above_taken (is_sound _ (s.each j)).lo_in (rw e at h)
 
-pub above_all : (x : List ℤ) (n : ℕ) → length x ≡ 2 * n → ((i : ℕ) → i < n → pos 0 ≤ℤ (at x i).lo) → NoneBelow x
+pub above_all : (x : List ℤ) (n : ℕ) → length x ≡ 2 * n → AllWithin (λ (j : ℕ). pos 0 ≤ℤ (at x j).lo) (range_with_len 0 n) 0 (length (range_with_len 0 n)) → NoneBelow x
 above_all x n l h = record { each = λ j. go j (dec_lt j n) }
   where
     go : (j : ℕ) → Dec (j < n) → pos 0 ≤ℤ (at x j).lo
-    go j (yes k) = h j k
+    go j (yes k) =
+        let e = get_or-range_with_len 0 n j 0 k in
+        let r = h j 0 (omega arith) (rw (length-range_with_len 0 n) k) in
+        rw (e, zero-add j) at r
     go j (no k) = rw (at_past x j (omega arith)) (le_z_yes tt)

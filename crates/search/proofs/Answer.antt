@@ -4,18 +4,17 @@ use mathlib.Core.List.{List}
 use Prim.Native.Nat.{ℕ, ◌≤◌, ◌<◌}
 use native.Mathlib.Omega.{arith}
 use lib.ListN.{length}
-use Rattle.search.specs.declared.Found.{Found}
-use Rattle.search.specs.declared.Found.TheVariants.{At, Nothing}
+use Rattle.std.specs.Prelude.{Option, Some, None}
 use Rattle.search.specs.First.{first_from, within}
 
 -- b stands at e, for the first time from a place on
 pub record FirstAt (s : List ℕ) (from b e : ℕ) : Type 0 where
-  pub is : first_from s from b ≡ At e
+  pub is : first_from s from b ≡ Some e
   pub low : from ≤ e
   pub high : e < length s
 
-pub first_at : {s : List ℕ} {from b e : ℕ} {r : Found} → (r ≡ first_from s from b) × within s from r → r ≡ At e → FirstAt s from b e
+pub first_at : {s : List ℕ} {from b e : ℕ} {r : Option ℕ} → (r ≡ first_from s from b) × within s from r → r ≡ Some e → FirstAt s from b e
 first_at {s} {from} c q = let w = subst (within s from) q c.1 in record { is = sym c.0 ∙ q; low = w.0; high = w.1 }
 
-pub found_not : {A : Type 0} {e : ℕ} → At e ≡ Nothing → A
+pub found_not : {A : Type 0} {e : ℕ} → Some e ≡ None → A
 found_not e = let z : ◌≡◌ {A = ℕ} 0 1 = cc in absurd (omega arith)

@@ -10,9 +10,9 @@ use borrow.Author.Tests.{eq-eqb, ne_eqb}
 use lib.Count.{count_trailing_zeros}
 use lib.ListN.{length, get_or}
 use lib.Bits.{shifted_even, shifted_half}
+use Rattle.std.specs.Prelude.{Some}
 use Rattle.search.specs.First.{first_from}
 use Rattle.search.specs.Word.{marks_at}
-use Rattle.search.specs.declared.Found.TheVariants.{At}
 use Rattle.search.proofs.Turn.{there, not_there}
 
 -- ---- the first mark
@@ -69,16 +69,16 @@ module _ (s : List ℕ) (b : ℕ) where
           not_there s b i (omega arith) f ∙ g (omega arith) (omega arith) z ∙ ap (λ j. first_from s j b) m
 
   -- a mark: the first of them is where b first stands
-  pub marked : (d i : ℕ) → i + d ≤ length s → marks_at s i b d ≢ 0 → (first_from s i b ≡ At (i + before d (marks_at s i b d))) × (before d (marks_at s i b d) < d)
+  pub marked : (d i : ℕ) → i + d ≤ length s → marks_at s i b d ≢ 0 → (first_from s i b ≡ Some (i + before d (marks_at s i b d))) × (before d (marks_at s i b d) < d)
   unfolding marks_at
   marked zero i h e = absurd (e refl)
   marked (suc d) i h e = go (ℕ_discrete (get_or s i 0) b) (marked d (i + 1))
     where
-      go : Dec (get_or s i 0 ≡ b) → (i + 1 + d ≤ length s → marks_at s (i + 1) b d ≢ 0 → (first_from s (i + 1) b ≡ At (i + 1 + before d (marks_at s (i + 1) b d))) × (before d (marks_at s (i + 1) b d) < d)) →
-          (first_from s i b ≡ At (i + before (suc d) (marks_at s i b (suc d)))) × (before (suc d) (marks_at s i b (suc d)) < suc d)
+      go : Dec (get_or s i 0 ≡ b) → (i + 1 + d ≤ length s → marks_at s (i + 1) b d ≢ 0 → (first_from s (i + 1) b ≡ Some (i + 1 + before d (marks_at s (i + 1) b d))) × (before d (marks_at s (i + 1) b d) < d)) →
+          (first_from s i b ≡ Some (i + before (suc d) (marks_at s i b (suc d)))) × (before (suc d) (marks_at s i b (suc d)) < suc d)
       go (yes f) g = rw (eq-eqb _ _ f, before_marked d (marks_at s (i + 1) b d), add-zero i) (there s b i (omega arith) f, omega arith)
       go (no f) g =
           let z : marks_at s (i + 1) b d ≢ 0 = λ q. e (rw (ne_eqb _ _ f, q)) in
           let r = g (omega arith) z in
           let l : i + 1 + before d (marks_at s (i + 1) b d) ≡ i + suc (before d (marks_at s (i + 1) b d)) = omega arith in
-          rw (ne_eqb _ _ f, before_unmarked d (marks_at s (i + 1) b d)) (not_there s b i (omega arith) f ∙ r.0 ∙ ap At l, omega (arith, r.1))
+          rw (ne_eqb _ _ f, before_unmarked d (marks_at s (i + 1) b d)) (not_there s b i (omega arith) f ∙ r.0 ∙ ap Some l, omega (arith, r.1))

@@ -1,7 +1,6 @@
 -- Document 02, A3: 'a search over any part of a text, of any length, gives the place of the first byte sought, and 'none' exactly if there is none'.
-use Rattle.std.specs.Prelude.{◌≡◌, ◌↔◌, List, ℕ, ◌≤◌, ◌<◌, length, get_or}
+use Rattle.std.specs.Prelude.{◌≡◌, ◌↔◌, Some, None, List, ℕ, ◌≤◌, ◌<◌, length, get_or}
 use Rattle.search.specs.First.{first_from}
-use Rattle.search.specs.declared.Found.TheVariants.{At, Nothing}
 
 -- a byte b stands at the place e of s, which is not before `from`
 pub record Stands (s : List ℕ) (from b e : ℕ) : Type 0 where
@@ -16,5 +15,5 @@ pub record First (s : List ℕ) (from b e : ℕ) : Type 0 where
 
 -- s is any part of any text, and `from` is any place, also one past its end
 pub record FirstByte : Type 0 where
-  pub place : (s : List ℕ) (from b e : ℕ) → first_from s from b ≡ At e ↔ First s from b e
-  pub none : (s : List ℕ) (from b : ℕ) → first_from s from b ≡ Nothing ↔ ((i : ℕ) → Stands s from b i → ⊥)
+  pub place : (s : List ℕ) (from b e : ℕ) → first_from s from b ≡ Some e ↔ First s from b e
+  pub none : (s : List ℕ) (from b : ℕ) → first_from s from b ≡ None ↔ ((i : ℕ) → Stands s from b i → ⊥)

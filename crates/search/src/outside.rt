@@ -2,15 +2,12 @@
 ghost use Rattle.std.specs.Prelude.{◌≡◌, length};
 ghost use Rattle.search.specs.First.{first_from, place_or};
 
-use crate::{Found, first};
+use crate::first;
 
 // The place, or the length of s if there is none.
 #[unsafe(no_mangle)]
 pub extern "C" fn kifwaleb_first_byte(s: &[u8], from: usize, b: u8) -> usize
     ensures { result ≡ place_or (length s.now) (first_from s.now from b) }
 {
-    match first(s, from, b) {
-        Found::At(e) => e,
-        Found::Nothing => s.len(),
-    }
+    first(s, from, b).unwrap_or(s.len())
 }

@@ -2,10 +2,10 @@
 use mathlib.Core.Path.{◌≡◌, refl, sym, ◌∙◌}
 use mathlib.Core.Bool.{true}
 use mathlib.Core.List.{List, [], ◌∷◌, ◌++◌}
-use mathlib.Core.Option.{some}
 use Prim.Native.Nat.{ℕ, ◌*◌}
 use lib.IntN.{ℤ, pos}
 use lib.ListN.{replicate}
+use Rattle.std.specs.Prelude.{Some}
 use Rattle.fraction.specs.Fraction.{Fraction}
 use Rattle.inputs.specs.System.{System}
 use Rattle.elimination.specs.Call.{over_B}
@@ -31,7 +31,7 @@ module _ (s : System) (X : List ℤ) (h : reached (calculation s X) ≡ true) (x
       let b = (accuracy s Y start (sweep_call 100 ∷ [])).bounded_after x sol tt in
       rw (reached_swept s X h) (last_change (λ c. Bounded s.size c.after x) (sweeps_of (run s (sweep_call 100) Y) Y) _ b)
 
-same_box : {x y : List ℤ} → some x ≡ some y → x ≡ y
+same_box : {x y : List ℤ} → Some x ≡ Some y → x ≡ y
 same_box e = cc
 
 pub covered : SheetCovered

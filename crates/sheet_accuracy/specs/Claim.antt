@@ -1,6 +1,5 @@
 -- The accuracy rule for the bounds that the program 'balance' prints.
-use Rattle.std.specs.Prelude.{◌≡◌, true, List, ℕ, ℤ}
-use Rattle.std.proofs.Math.Option.{some}
+use Rattle.std.specs.Prelude.{◌≡◌, true, List, ℕ, ℤ, Some}
 use Rattle.outcome.specs.Run.{done}
 use Rattle.fraction.specs.Fraction.{Fraction}
 use Rattle.text.specs.Parts.{parts, fields, part}
@@ -16,5 +15,5 @@ use Rattle.accuracy.specs.Claim.{Bounded}
 abbrev pub SheetCovered : Type 0
 SheetCovered =
     (text : List ℕ) (c : Cellar) → reading text ≡ done c → reached (solved c.balance) ≡ true
-    → (box : List ℤ) → values c.balance.size (fields (part (parts 10 (printed text)) 1)) ≡ some box
+    → (box : List ℤ) → values c.balance.size (fields (part (parts 10 (printed text)) 1)) ≡ Some box
     → (x : ℕ → Fraction) → Solution c.balance x → Bounded c.balance.size box x

@@ -1,28 +1,25 @@
 -- The lines of a matrix that the code goes through are its rows and its columns.
-use mathlib.Core.Path.{◌≡◌}
+use mathlib.Core.Path.{◌≡◌, ap, ◌∙◌}
 use mathlib.Core.List.{List}
 use Prim.Native.Nat.{ℕ, ◌+◌, ◌*◌, ◌≤◌, ◌<◌}
 use native.Mathlib.Omega.{arith}
-use lib.IntN.{ℤ}
+use lib.IntN.{ℤ, ◌+ℤ◌}
 use lib.ListN.{length}
+use mir.Syntax.{w64}
+use mir.Val.{SFits, to_z, of_z}
 use Rattle.integer.specs.Total.{total}
-use Rattle.integer.proofs.Summing.{Term}
+use Rattle.integer.proofs.Summing.{Term, add_safe, add_is}
+use Rattle.interval.specs.declared.Interval.{Interval}
 use Rattle.inputs.specs.Place.{at}
 use Rattle.inputs.specs.System.{system}
 use Rattle.inputs.proofs.Tests.{square}
-use Rattle.inputs.proofs.Place.{cell_before}
 use Rattle.start_box.specs.Sums.{magnitude, row_sum, column_sum}
 use Rattle.start_box.specs.Reach.{coefficients}
-use Rattle.start_box.specs.Code.{Square, Lines, line_sum}
+use Rattle.start_box.specs.Ready.{Square, Lines}
+use Rattle.start_box.specs.Code.{line_sum}
 use Rattle.start_box.proofs.Magnitude.{magnitude_term}
 
 module _ (n : ℕ) where
-  pub rows_lines : Lines n n 1
-  rows_lines = record { inside = λ i k h l. omega (arith, cell_before n i k h l) }
-
-  pub columns_lines : Lines n 1 n
-  columns_lines = record { inside = λ i k h l. omega (arith, cell_before n k i l h) }
-
   module _ (m r : List ℤ) where
     pub row_line : line_sum n m n 1 ≡ row_sum (coefficients (system n m r)) n
     unfolding line_sum row_sum
@@ -48,5 +45,19 @@ module _ {n a b : ℕ} {m : List ℤ} (s : Square n m) (w : Lines n a b) (i k : 
 
 -- ---- the sum of a line
 module _ {n : ℕ} {m : List ℤ} (s : Square n m) (a b i : ℕ) where
-  pub line_term : (k : ℕ) → Term 2000000000 (magnitude (at m (i * a + k * b)))
-  line_term k = magnitude_term _ (s.sound.each _)
+  abbrev entry : ℕ → ℤ
+  entry k = magnitude (at m (i * a + k * b))
+
+  each : (k : ℕ) → k < n → Term 2000000000 (entry k)
+  each k h = magnitude_term _ (s.sound.each _)
+
+  few : 2000000000 * n ≤ 1000000000000000000
+  few = omega (arith, s.few)
+
+  -- with the next entry
+  module _ (k : ℕ) (h : k < n) {sum : ℤ} {v : Interval} (e : sum ≡ total entry k 0) (g : v ≡ at m (i * a + k * b)) {z : ℤ} (f : z ≡ magnitude v) where
+    pub line_safe : SFits w64 (sum +ℤ to_z w64 (of_z w64 z))
+    line_safe = add_safe entry 2000000000 n each few k h e (f ∙ ap magnitude g)
+
+    pub line_next : to_z w64 (of_z w64 (sum +ℤ to_z w64 (of_z w64 z))) ≡ total entry (k + 1) 0
+    line_next = add_is entry 2000000000 n each few k h e (f ∙ ap magnitude g)

@@ -1,38 +1,23 @@
--- The right side widened: one turn of its two loops, and the box from its parts.
+-- The right side widened: one turn of the loop that writes it, and the box from its parts.
 use mathlib.Core.Path.{◌≡◌, ◌∙◌}
 use mathlib.Core.Bool.{true, false}
 use mathlib.Core.List.{List}
-use Prim.Native.Nat.{ℕ, suc, ◌+◌, ◌-◌, ◌*◌, ◌≤◌, ◌<◌}
+use Prim.Native.Nat.{ℕ, ◌+◌, ◌*◌, ◌≤◌, ◌<◌}
 use native.Mathlib.Omega.{arith}
 use native.Mathlib.Decide.{ℕ_discrete}
 use lib.IntN.{ℤ}
 use lib.ListN.{length}
-use Rattle.outcome.specs.declared.Outcome.{Outcome}
-use Rattle.outcome.specs.declared.Outcome.TheVariants as outcome
+use Rattle.outcome.specs.declared.Refusal.{Refusal}
+use Rattle.outcome.specs.declared.Refusal.TheVariants as refusal
 use Rattle.outcome.specs.Run.{refused, done, and_then, ended}
 use Rattle.interval.specs.declared.Interval.{Interval}
-use Rattle.interval.specs.Interval.{in_range}
 use Rattle.inputs.specs.Place.{at, put, numbers}
 use Rattle.inputs.specs.System.{System}
 use Rattle.inputs.specs.Code.{Ended}
 use Rattle.inputs.proofs.Place.{length_put, at_put_same, at_put_other, numbers_is}
 use Rattle.start_box.specs.Reach.{reach}
 use Rattle.start_box.specs.Call.{widened, all_in_range, box_around, begun}
-
--- ---- the test; the components left are n − i
-module _ (f : ℕ → Interval) (n i : ℕ) where
-  pub range_end : n ≤ i → all_in_range f (n - i) i ≡ true
-  unfolding all_in_range
-  range_end h = let e : n - i ≡ 0 = omega arith in rw e
-
-  module _ (h : i < n) where
-    pub range_stop : in_range (f i) ≡ false → all_in_range f (n - i) i ≡ false
-    unfolding all_in_range
-    range_stop g = let e : n - i ≡ suc (n - (i + 1)) = omega arith in rw (e, g)
-
-    pub range_go : in_range (f i) ≡ true → all_in_range f (n - i) i ≡ all_in_range f (n - (i + 1)) (i + 1)
-    unfolding all_in_range
-    range_go g = let e : n - i ≡ suc (n - (i + 1)) = omega arith in rw (e, g)
+use Rattle.std.specs.Prelude.{Result, Ok, Err}
 
 -- ---- the box so far: its first i components are written
 pub record Halfway (f : ℕ → Interval) (n i : ℕ) (x : List ℤ) : Type 0 where
@@ -52,19 +37,19 @@ module _ {f : ℕ → Interval} {n i : ℕ} {x : List ℤ} (w : Halfway f n i x)
 
 -- ---- the box from its parts
 module _ (n : ℕ) (b : List ℤ) (r : ℤ) (x : List ℤ) where
-  pub around_out : all_in_range (widened b r) n 0 ≡ false → Ended (box_around n b r) (outcome.OutOfRange 0) x x
+  pub around_out : all_in_range (widened b r) n 0 ≡ false → Ended (box_around n b r) (Err (refusal.OutOfRange 0)) x x
   unfolding box_around ended
   around_out e = record { is = rw e }
 
-  pub around_is : {y : List ℤ} → all_in_range (widened b r) n 0 ≡ true → y ≡ numbers (widened b r) n 0 → Ended (box_around n b r) outcome.Done x y
+  pub around_is : {y : List ℤ} → all_in_range (widened b r) n 0 ≡ true → y ≡ numbers (widened b r) n 0 → Ended (box_around n b r) (Ok tt) x y
   unfolding box_around ended
   around_is e f = record { is = rw (e, f) }
 
 module _ (s : System) (x : List ℤ) where
-  pub begun_stops : {o : Outcome} → refused o ≡ reach s → Ended (begun s) o x x
+  pub begun_stops : {o : Refusal} → refused o ≡ reach s → Ended (begun s) (Err o) x x
   unfolding begun and_then ended
   begun_stops e = record { is = rw (← e) }
 
-  pub begun_goes : {r : ℤ} {o : Outcome} {y : List ℤ} → done r ≡ reach s → Ended (box_around s.size s.right r) o x y → Ended (begun s) o x y
+  pub begun_goes : {r : ℤ} {o : Result (Unit {0}) Refusal} {y : List ℤ} → done r ≡ reach s → Ended (box_around s.size s.right r) o x y → Ended (begun s) o x y
   unfolding begun and_then
   begun_goes e h = rw (← e) h

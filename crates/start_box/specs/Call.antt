@@ -1,6 +1,6 @@
 -- Document 02, A2: 'The box is b widened by the reach', and the call.
 use Rattle.std.specs.Prelude.{Bool, true, cond, ◌&&◌, List, ℕ, zero, suc, ◌+◌, ℤ, ◌+ℤ◌, ◌-ℤ◌, length}
-use Rattle.outcome.specs.declared.Outcome.TheVariants as outcome
+use Rattle.outcome.specs.declared.Refusal.TheVariants as refusal
 use Rattle.outcome.specs.Run.{Run, refused, done, and_then, Returned, written, ended}
 use Rattle.interval.specs.declared.Interval.{Interval}
 use Rattle.interval.specs.Interval.{ends, in_range}
@@ -20,7 +20,7 @@ all_in_range f (suc d) i = in_range (f i) && all_in_range f d (i + 1)
 
 -- 'A dividend, quotient or end out of the range is 6, place 0'
 unfoldable pub box_around : (n : ℕ) (b : List ℤ) (r : ℤ) → Run (List ℤ)
-box_around n b r = cond (all_in_range (widened b r) n 0) (done (numbers (widened b r) n 0)) (refused (outcome.OutOfRange 0))
+box_around n b r = cond (all_in_range (widened b r) n 0) (done (numbers (widened b r) n 0)) (refused (refusal.OutOfRange 0))
 
 -- what follows the tests 1, 2 and 3: 10 comes 'after 3 and before the calculation'
 unfoldable pub begun : System → Run (List ℤ)

@@ -1,4 +1,5 @@
 pub mod Sums
 pub mod Reach
 pub mod Call
+pub mod Ready
 pub mod Code

@@ -1,6 +1,6 @@
 -- Document 02, A2: the reach, by rows or else by columns; 10 where neither sum test holds.
 use Rattle.std.specs.Prelude.{cond, ℕ, zero, suc, ◌+◌, ℤ, pos, ◌-ℤ◌, ◌*ℤ◌}
-use Rattle.outcome.specs.declared.Outcome.TheVariants as outcome
+use Rattle.outcome.specs.declared.Refusal.TheVariants as refusal
 use Rattle.outcome.specs.Run.{Run, refused, done, and_then}
 use Rattle.integer.specs.Rounding.{ceil_div}
 use Rattle.integer.specs.Extremes.{maximum}
@@ -27,7 +27,7 @@ quotient p sum = ceil_div (p *ℤ scale) (scale -ℤ sum)
 
 -- 'A dividend, quotient or end out of the range is 6, place 0'
 unfoldable pub ranged : ℤ → Run ℤ
-ranged z = cond (within z) (done z) (refused (outcome.OutOfRange 0))
+ranged z = cond (within z) (done z) (refused (refusal.OutOfRange 0))
 
 unfoldable pub divided : (p sum : ℤ) → Run ℤ
 divided p sum = and_then (ranged p) (λ p. ranged (quotient p sum))
@@ -48,4 +48,4 @@ over_columns s =
 unfoldable pub reach : System → Run ℤ
 reach s =
     cond (all_below_one (row_sum (coefficients s) s.size) s.size 0) (over_rows s s.size 0 (pos 0))
-    (cond (all_below_one (column_sum (coefficients s) s.size) s.size 0) (over_columns s) (refused outcome.Sums))
+    (cond (all_below_one (column_sum (coefficients s) s.size) s.size 0) (over_columns s) (refused refusal.Sums))

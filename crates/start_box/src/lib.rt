@@ -3,21 +3,23 @@
 pub mod internal;
 
 ghost use Rattle.std.specs.Prelude.{◌≡◌};
-ghost use Rattle.outcome.specs.Run.{returned};
+ghost use Rattle.outcome.specs.Run.{answered};
 ghost use Rattle.inputs.specs.System.{system};
 ghost use Rattle.start_box.specs.Call.{start_box};
 
-use crate::internal::begin;
-use inputs::Test;
+use crate::internal::Balance;
 use inputs::internal::tested;
-use outcome::Outcome;
+use outcome::Refusal;
 
 // A box that holds every solution of x = B·x + b, without elimination: document 003's start box, in the lent box.
-pub fn start_box(n: usize, b_matrix: &[i64], b: &[i64], bounds: &mut [i64]) -> Outcome
-    ensures { returned result 0 bounds.new ≡ start_box (system n b_matrix.now b.now) bounds.old }
+pub fn start_box(n: usize, b_matrix: &[i64], b: &[i64], bounds: &mut [i64]) -> Result<(), Refusal>
+    ensures { answered result bounds.new ≡ start_box (system n b_matrix.now b.now) bounds.old }
 {
-    match tested(n, b_matrix, b, bounds.len()) {
-        Test::Pass => begin(n, b_matrix, b, bounds),
-        Test::Fail(o) => o,
-    }
+    tested(n, b_matrix, b, bounds.len())?;
+    let balance = Balance {
+        n,
+        matrix: b_matrix,
+        right: b,
+    };
+    balance.begin(bounds)
 }

@@ -9,7 +9,7 @@ use lib.ListN.{length}
 use lib.Signed.{◌≤ℤ◌, ◌<ℤ◌}
 use Rattle.integer.proofs.Linear.{linear, over}
 use Rattle.integer.proofs.Order.{trans, lt_le}
-use Rattle.outcome.specs.declared.Outcome.TheVariants as outcome
+use Rattle.outcome.specs.declared.Refusal.TheVariants as refusal
 use Rattle.outcome.specs.Run.{done}
 use Rattle.outcome.proofs.Run.{joined}
 use Rattle.fraction.specs.Fraction.{Fraction, Inside}
@@ -17,7 +17,7 @@ use Rattle.fraction.proofs.Inside.{inside_same}
 use Rattle.inputs.specs.Place.{at, numbers}
 use Rattle.inputs.specs.System.{System, tests}
 use Rattle.inputs.proofs.Place.{numbers_at}
-use Rattle.inputs.proofs.Accepted.{tested_done}
+use Rattle.inputs.proofs.Accepted.{tested_done, to_end}
 use Rattle.accuracy.specs.Solution.{Solution, InBox}
 use Rattle.accuracy.proofs.Common.{ratio}
 use Rattle.start_box.specs.Reach.{coefficients, dividend, reach}
@@ -27,7 +27,6 @@ use Rattle.start_box_accuracy.proofs.Magnitude.{magnitude_above, beyond, beyond_
 use Rattle.start_box_accuracy.proofs.Contraction.{within_reach}
 use Rattle.start_box_accuracy.proofs.Reached.{handed_on, reached}
 use Rattle.start_box_accuracy.proofs.Row.{weights, outside, row_beyond}
-use Rattle.start_box_accuracy.proofs.Accepted.{accepted}
 
 -- no weight lies farther beyond b than the reach
 solution_near : (s : System) (r : ℤ) → reach s ≡ done r → (x : ℕ → Fraction) → Solution s x → (j : ℕ) → j < s.size → outside s x j ≤ℤ (r *ℤ (weights s x).den)
@@ -39,7 +38,7 @@ solution_near s r e x sol =
 -- ---- b widened by r
 box_around_lem : (n : ℕ) (b : List ℤ) (r : ℤ) {X : List ℤ} → box_around n b r ≡ done X → numbers (widened b r) n 0 ≡ X
 unfolding box_around
-box_around_lem n b r = handed_on (all_in_range (widened b r) n 0) (numbers (widened b r) n 0) (outcome.OutOfRange 0)
+box_around_lem n b r = handed_on (all_in_range (widened b r) n 0) (numbers (widened b r) n 0) (refusal.OutOfRange 0)
 
 widened_inside : (b : List ℤ) (r : ℤ) (j : ℕ) (p q : ℤ) (h : pos 0 <ℤ q) → beyond (at b j) p q ≤ℤ (r *ℤ q) → Inside (widened b r j) (ratio p q h)
 unfolding widened
@@ -68,4 +67,4 @@ run_holds s l X e x sol =
     }
 
 pub holds : StartBoxHolds
-holds s box X a = run_holds s (length box) X (accepted s box a.returned a.left)
+holds s box X a = run_holds s (length box) X (to_end (run s (length box)) box a.returned a.left)

@@ -2,6 +2,5 @@ pub mod Magnitude
 pub mod Contraction
 pub mod Reached
 pub mod Row
-pub mod Accepted
 pub mod Holds
 pub mod Kept

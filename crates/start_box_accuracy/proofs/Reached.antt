@@ -5,8 +5,8 @@ use Prim.Native.Nat.{ℕ, zero, suc, ◌+◌, ◌≤◌, ◌<◌}
 use native.Mathlib.Omega.{arith}
 use lib.IntN.{ℤ, pos, ◌-ℤ◌, ◌*ℤ◌}
 use lib.Signed.{◌≤ℤ◌, ◌<ℤ◌, ≤ℤ_refl}
-use Rattle.outcome.specs.declared.Outcome.{Outcome}
-use Rattle.outcome.specs.declared.Outcome.TheVariants as outcome
+use Rattle.outcome.specs.declared.Refusal.{Refusal}
+use Rattle.outcome.specs.declared.Refusal.TheVariants as refusal
 use Rattle.outcome.specs.Run.{refused, done}
 use Rattle.outcome.proofs.Run.{never, done_same, joined}
 use Rattle.integer.specs.Extremes.{maximum}
@@ -25,14 +25,14 @@ use Rattle.start_box.proofs.Reach.{gap_above}
 use Rattle.start_box_accuracy.proofs.Contraction.{Reach, by_rows, by_columns}
 
 -- what a test hands on
-pub handed_on : {A : Type 0} (b : Bool) (x : A) (o : Outcome) {y : A} → cond b (done x) (refused o) ≡ done y → x ≡ y
+pub handed_on : {A : Type 0} (b : Bool) (x : A) (o : Refusal) {y : A} → cond b (done x) (refused o) ≡ done y → x ≡ y
 handed_on true x o e = done_same e
 handed_on false x o e = never e
 
 -- ---- a quotient
 ranged_same : {z q : ℤ} → ranged z ≡ done q → z ≡ q
 unfolding ranged
-ranged_same {z} = handed_on (within z) z (outcome.OutOfRange 0)
+ranged_same {z} = handed_on (within z) z (refusal.OutOfRange 0)
 
 divided_high : (p sum : ℤ) {q : ℤ} → sum <ℤ scale → divided p sum ≡ done q → (p *ℤ scale) ≤ℤ (q *ℤ (scale -ℤ sum))
 unfolding divided quotient
@@ -72,7 +72,7 @@ module _ (s : System) where
   unfolding reach over_columns
   reached r = by_row (all_below_one sum_of s.size 0) refl
     where
-      by_column : (b : Bool) → all_below_one columns s.size 0 ≡ b → cond b (over_columns s) (refused outcome.Sums) ≡ done r → Reach s.size (coefficients s) (dividend s) r
+      by_column : (b : Bool) → all_below_one columns s.size 0 ≡ b → cond b (over_columns s) (refused refusal.Sums) ≡ done r → Reach s.size (coefficients s) (dividend s) r
       by_column true f e =
           let C = greatest columns s.size 0 (pos 0) in
           let C-below = greatest_below columns s.size 0 (pos 0) f scale_above in
@@ -80,7 +80,7 @@ module _ (s : System) where
       by_column false f e = never e
 
       by_row : (b : Bool) → all_below_one sum_of s.size 0 ≡ b →
-          cond b (over_rows s s.size 0 (pos 0)) (cond (all_below_one columns s.size 0) (over_columns s) (refused outcome.Sums)) ≡ done r → Reach s.size (coefficients s) (dividend s) r
+          cond b (over_rows s s.size 0 (pos 0)) (cond (all_below_one columns s.size 0) (over_columns s) (refused refusal.Sums)) ≡ done r → Reach s.size (coefficients s) (dividend s) r
       by_row true f e =
           let below = below_each sum_of s.size 0 f in
           let o = over_rows_lem s.size 0 (pos 0) r below e in

@@ -8,14 +8,14 @@ use native.Mathlib.Omega.{arith}
 use borrow.Author.Tests.{ne_eqb}
 use lib.Dec.{eqb}
 use lib.IntN.{ℤ}
-use Rattle.outcome.specs.declared.Outcome.{Outcome}
-use Rattle.outcome.specs.declared.Outcome.TheVariants as outcome
+use Rattle.outcome.specs.declared.Refusal.{Refusal}
+use Rattle.outcome.specs.declared.Refusal.TheVariants as refusal
 use Rattle.outcome.specs.Table.{number_and_place}
 use Rattle.outcome.specs.Run.{Run, refused, done, ended}
 use Rattle.interval.specs.declared.Interval.{Interval}
 use Rattle.interval.specs.Interval.{is_empty}
-use Rattle.inputs.specs.declared.Test.{Test}
-use Rattle.inputs.specs.declared.Test.TheVariants.{Pass, Fail}
+use Rattle.inputs.specs.Tests.{Test}
+use Rattle.std.specs.Prelude.{Ok, Err}
 use Rattle.inputs.specs.Place.{put}
 use Rattle.inputs.specs.Tests.{tested}
 use Rattle.inputs.specs.System.{System, system}
@@ -43,7 +43,7 @@ module _ (n : ℕ) (m r : List ℤ) where
       v = component sum (system n m r) x i
 
       go : (t : Bool) → is_empty v ≡ t → (Ready n m r (put x i v) → OnPass (along sum (system n m r) is (put x i v)))
-          → OnPass (cond t (refused (outcome.Empty (i + 1))) (along sum (system n m r) is (put x i v)))
+          → OnPass (cond t (refused (refusal.Empty (i + 1))) (along sum (system n m r) is (put x i v)))
       go true f k = tt
       go false f k = k (ready_put sum w i b.0 f)
 
@@ -68,8 +68,8 @@ pub early_tests : (s : System) (k : ℕ) (x : List ℤ) → Early (tests s k x)
 unfolding tests allowance
 early_tests s k x = search (parts, early_sizes, early_all)
 
-pub refused_not_empty : (s : System) (k : ℕ) (x : List ℤ) {o : Outcome} → tests s k x ≡ Fail o → eqb (number_and_place o).number 7 ≡ false
-refused_not_empty s k x {o} e = ne_eqb (number_and_place o).number 7 (omega (arith, early_number (early_tests s k x) e))
+pub refused_not_empty : (s : System) (k : ℕ) (x : List ℤ) {o : Refusal} → tests s k x ≡ Err o → eqb (number_and_place (Err o)).number 7 ≡ false
+refused_not_empty s k x {o} e = ne_eqb (number_and_place (Err o)).number 7 (omega (arith, early_number (early_tests s k x) e))
 
 -- ---- a call that said 0 or 9 has passed them
 run_keeps : (s : System) (p : List ℤ → Run (List ℤ)) → ((x : List ℤ) → Ready s.size s.matrix s.right x → OnPass s.size s.matrix s.right (p x))
@@ -85,9 +85,9 @@ run_keeps s p keeps k x e = go (tests s k x) refl (early_tests s k x) e
     go : (t : Test) → tests s k x ≡ t → Early t
         → ((ended (concluded x) x (tested t (done l))).number ≡ 0) ⊎ ((ended (concluded x) x (tested t (done l))).number ≡ 9)
         → (1 ≤ s.size) × Ready s.size s.matrix s.right (ended (concluded x) x (tested t (done l))).left
-    go Pass f h e = let w = ready s k x f in ((fits s k x f).some, sweeps_keep s.size s.matrix s.right p keeps k x x w w)
-    go (Fail o) f h (inl e) = absurd (omega (arith, early_number h refl))
-    go (Fail o) f h (inr e) = absurd (omega (arith, early_number h refl))
+    go (Ok _) f h e = let w = ready s k x f in ((fits s k x f).some, sweeps_keep s.size s.matrix s.right p keeps k x x w w)
+    go (Err o) f h (inl e) = absurd (omega (arith, early_number h refl))
+    go (Err o) f h (inr e) = absurd (omega (arith, early_number h refl))
 
 pub call_keeps : (s : System) (c : Call) (x : List ℤ) → ((call s c x).number ≡ 0) ⊎ ((call s c x).number ≡ 9)
     → (1 ≤ s.size) × Ready s.size s.matrix s.right (call s c x).left

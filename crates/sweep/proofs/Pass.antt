@@ -1,18 +1,18 @@
 -- One turn of a pass, and what stays true of the box.
 use mathlib.Core.Path.{◌≡◌, sym, ◌∙◌}
 use mathlib.Core.Bool.{Bool, true, false, ◌||◌}
-use mathlib.Core.List.{List}
-use Prim.Native.Nat.{ℕ, suc, ◌+◌, ◌-◌, ◌*◌, ◌≤◌, ◌<◌}
+use mathlib.Core.List.{List, [], ◌∷◌, ◌++◌}
+use Prim.Native.Nat.{ℕ, ◌+◌, ◌-◌, ◌*◌, ◌<◌}
 use native.Mathlib.Omega.{arith}
 use native.Mathlib.Decide.{ℕ_discrete}
-use native.Mathlib.Nat.{sub-zero, mul-le-mul_right}
+use native.Mathlib.Nat.{sub-zero}
 use lib.IntN.{ℤ}
 use lib.ListN.{length}
 use lib.Signed.{◌≤ℤ◌}
 use Rattle.integer.proofs.Order.{left, trans}
 use Rattle.integer.proofs.Extremes.{le_max_right, min_le_right}
-use Rattle.outcome.specs.declared.Outcome.TheVariants as outcome
-use Rattle.outcome.specs.Run.{refused, done}
+use Rattle.outcome.specs.declared.Refusal.{Refusal}
+use Rattle.outcome.specs.Run.{Run}
 use Rattle.interval.specs.declared.Interval.{Interval}
 use Rattle.interval.specs.Interval.{acceptable, exact_sum, intersection, is_empty}
 use Rattle.interval.specs.Code.{Representable}
@@ -21,15 +21,17 @@ use Rattle.fraction.specs.Meaning.{Contains}
 use Rattle.fraction.proofs.Contains.{contains_refl, contains_trans, intersection_narrows}
 use Rattle.inputs.specs.System.{System, system}
 use Rattle.inputs.specs.Place.{at, put}
-use Rattle.inputs.specs.Code.{Sound}
 use Rattle.inputs.proofs.Place.{length_put, sound_put, at_put_same, at_put_other}
 use Rattle.rows.specs.Sum.{RowSum, once}
 use Rattle.rows.proofs.Size.{small_fits, sum_small, acceptable_small}
 use Rattle.rows.proofs.Sum.{once_small}
-use Rattle.sweep.specs.Pass.{component, along, differs, differ}
-use Rattle.sweep.specs.Code.{Ready, turn, turns}
+use Rattle.std.specs.Prelude.{Result, Ok, Err}
+use Rattle.sweep.specs.declared.internal.pass.Way.{Way}
+use Rattle.sweep.specs.Pass.{component, along, up, differ}
+use Rattle.sweep.specs.Code.{Ready, pass, Narrowed, Passed}
+pub use Rattle.sweep.specs.Stays.{ready_after}
 use Rattle.sweep.proofs.Changed.{differ_self, differ_put}
-use Rattle.sweep.proofs.Turns.{turn_below}
+use Rattle.sweep.proofs.Turns.{back, pass_along}
 
 -- what is not empty has its ends in sequence
 pub not_empty : {v : Interval} → is_empty v ≡ false → v.lo ≤ℤ v.hi
@@ -86,49 +88,38 @@ module _ (sum : RowSum) {n : ℕ} {m r x : List ℤ} (w : Ready n m r x) (i : �
         box_sound = sound_put x i _ w.box_sound (omega (arith, w.box)) (component_accepted e);
       }
 
--- ---- at most two halves
-pub few_turns : (n h : ℕ) → h ≤ 2 → h * n ≤ 2 * n
-few_turns n h l = mul-le-mul_right n l
-
--- ---- a pass of d turns before turn k: the box so far, and whether it differs from the one before the pass
-pub record Halfway (n d k : ℕ) (m r x₀ x : List ℤ) (changed : Bool) : Type 0 where
-  pub ready : Ready n m r x
-  pub rest : along once (system n m r) (turns n d 0) x₀ ≡ along once (system n m r) (turns n (d - k) k) x
-  pub flag : changed ≡ differ x₀ x n 0
+-- ---- a pass before the components of a list: the box so far, and whether it differs from the one before the pass
+pub record Halfway (s : System) (run : Run (List ℤ)) (is : List ℕ) (x₀ x : List ℤ) (changed : Bool) : Type 0 where
+  pub ready : Ready s.size s.matrix s.right x
+  pub rest : run ≡ along once s is x
+  pub flag : changed ≡ differ x₀ x s.size 0
   pub inside : (j : ℕ) → Contains (at x₀ j) (at x j)
 
-pub halfway_start : {n : ℕ} (d : ℕ) {m r x : List ℤ} → Ready n m r x → Halfway n d 0 m r x x false
-halfway_start {n} d {x = x} w = record { ready = w; rest = rw sub-zero; flag = sym (differ_self x n 0); inside = λ j. contains_refl (at x j) }
+pub halfway_start : (w : Way) (s : System) {x : List ℤ} → Ready s.size s.matrix s.right x → Halfway s (pass w s x) (up (s.size - 0) 0 ++ back w s.size) x x false
+halfway_start w s {x} r = record { ready = r; rest = rw sub-zero (pass_along w s x); flag = sym (differ_self x s.size 0); inside = λ j. contains_refl (at x j) }
 
-module _ {n d k : ℕ} {m r x₀ x : List ℤ} {c : Bool} (w : Halfway n d k m r x₀ x c) where
-  pub halfway_end : d ≤ k → done x ≡ along once (system n m r) (turns n d 0) x₀
-  unfolding turns along
-  halfway_end h = let e : d - k ≡ 0 = omega arith in sym (w.rest ∙ rw e)
+module _ {s : System} {run : Run (List ℤ)} {x₀ x : List ℤ} {c : Bool} where
+  pub passed : {is : List ℕ} → is ≡ [] → Halfway s run is x₀ x c → Passed run s.size x₀ (Ok c) x
+  unfolding along
+  passed e w = record { is = sym (w.rest ∙ rw e); flagged = w.flag; sound = w.ready.box_sound }
 
-  module _ {i : ℕ} {v : Interval} (h : k < d) (l : d ≤ 2 * n) (a : i ≡ turn n k) (e : v ≡ component once (system n m r) x i) where
-    pub below : i < n
-    below = rw a (turn_below n k (omega arith))
+  module _ {i : ℕ} {is : List ℕ} {y : List ℤ} (w : Halfway s run (i ∷ is) x₀ x c) where
+    pub passed_stop : {r : Result Bool Refusal} {o : Refusal} → r ≡ Err o → Narrowed s i x (Err o) y → Passed run s.size x₀ r y
+    unfolding along
+    passed_stop e h =
+        rw (e, h.2)
+        (record { is = sym (w.rest ∙ rw (h.0, ← h.1)); flagged = tt; sound = w.ready.box_sound })
 
-    pub halfway_stop : is_empty v ≡ true → refused (outcome.Empty (i + 1)) ≡ along once (system n m r) (turns n d 0) x₀
-    unfolding turns along
-    halfway_stop f = let z : d - k ≡ suc (d - (k + 1)) = omega arith in sym (w.rest ∙ rw (z, ← a, ← e, f))
-
-    goes_on : is_empty v ≡ false → along once (system n m r) (turns n (d - k) k) x ≡ along once (system n m r) (turns n (d - (k + 1)) (k + 1)) (put x i v)
-    unfolding turns along
-    goes_on f = let z : d - k ≡ suc (d - (k + 1)) = omega arith in rw (z, ← a, ← e, f)
-
-    pub halfway_go : {t : Bool} {o : Interval} {y : List ℤ} → is_empty v ≡ false → o ≡ at x i → t ≡ (c || differs o v) → y ≡ put x i v → Halfway n d (k + 1) m r x₀ y t
-    halfway_go f g p q =
-        let room : 2 * i + 1 < length x = omega (arith, w.ready.box, below) in
-        let narrower : Contains (at x i) v = rw e (component_narrows once (system n m r) x i) in
-        rw (q, p, g, w.flag)
+    pub halfway_go : {t : Bool} → i < s.size → Narrowed s i x (Ok t) y → Halfway s run is x₀ y (c || t)
+    unfolding along
+    halfway_go l h =
+        let v : Interval = component once s x i in
+        let room : 2 * i + 1 < length x = omega (arith, w.ready.box) in
+        let narrower : Contains (at x i) v = component_narrows once s x i in
+        rw (h.2, h.1, w.flag)
         (record {
-          ready = rw e (ready_put once w.ready i below (rw e at f));
-          rest = w.rest ∙ goes_on f;
-          flag = sym (differ_put x₀ x i v room (w.inside i) narrower n 0 (omega arith) (omega (arith, below)));
+          ready = ready_put once w.ready i l h.0;
+          rest = w.rest ∙ rw h.0;
+          flag = sym (differ_put x₀ x i v room (w.inside i) narrower s.size 0 (omega arith) (omega arith));
           inside = λ j. contains_trans (w.inside j) (put_narrows x i v room narrower j);
         })
-
--- a box that is as long, and of intervals
-pub ready_after : {n : ℕ} {m r x y : List ℤ} → Ready n m r x → length y ≡ length x → Sound y → Ready n m r y
-ready_after w l h = record { few = w.few; matrix = w.matrix; right = w.right; box = l ∙ w.box; matrix_sound = w.matrix_sound; right_sound = w.right_sound; box_sound = h }

@@ -1,68 +1,21 @@
--- The turns of a pass are its components: of one half upward, of both upward and then downward.
-use mathlib.Core.Path.{◌≡◌, refl, sym, ap, ap₂, ◌∙◌}
+-- The components that a pass goes over: upward, or upward and then downward.
+use mathlib.Core.Path.{◌≡◌, refl, sym, ap}
 use mathlib.Core.Bool.{Bool, true, false, cond}
-use mathlib.Core.List.{List, [], ◌∷◌, ◌++◌}
-use Prim.Native.Nat.{ℕ, zero, suc, ◌+◌, ◌-◌, ◌*◌, ◌≤◌, ◌<◌}
+use mathlib.Core.List.{List, [], ◌∷◌, ◌++◌, append-nil}
+use Prim.Native.Nat.{ℕ, zero, suc, ◌+◌, ◌-◌, ◌≤◌, ◌<◌}
 use native.Mathlib.Omega.{arith}
-use native.Mathlib.Decide.{dec_lt}
-use borrow.Author.Tests.{le-leb, lt-leb}
 use lib.IntN.{ℤ}
-use Rattle.outcome.specs.declared.Outcome.TheVariants as outcome
+use Rattle.outcome.specs.declared.Refusal.TheVariants as refusal
 use Rattle.outcome.specs.Run.{refused, and_then}
 use Rattle.interval.specs.declared.Interval.{Interval}
 use Rattle.interval.specs.Interval.{is_empty}
 use Rattle.inputs.specs.Place.{put}
 use Rattle.inputs.specs.System.{System}
 use Rattle.rows.specs.Sum.{RowSum, once}
+use Rattle.sweep.specs.declared.internal.pass.Way.{Way}
+use Rattle.sweep.specs.declared.internal.pass.Way.TheVariants.{There, ThereAndBack}
 use Rattle.sweep.specs.Pass.{component, along, up, down, sweep, symmetric}
-use Rattle.sweep.specs.Code.{turn, turns, pass}
-
--- ---- the component of one turn
-module _ (n k : ℕ) where
-  pub turn_up : k < n → k ≡ turn n k
-  unfolding turn
-  turn_up h = rw (lt-leb n k h)
-
-  pub turn_down : n ≤ k → 2 * n - (k + 1) ≡ turn n k
-  unfolding turn
-  turn_down h = rw (le-leb n k h)
-
-  pub turn_below : k < 2 * n → turn n k < n
-  turn_below h = go (dec_lt k n)
-    where
-      go : Dec (k < n) → turn n k < n
-      go (yes l) = rw (← (turn_up l)) l
-      go (no l) = rw (← (turn_down (omega (arith, l)))) (omega (arith, l, h))
-
--- ---- the components of several
-turns_up : (n d k : ℕ) → k + d ≤ n → turns n d k ≡ up d k
-unfolding turns up
-turns_up n zero k h = refl
-turns_up n (suc d) k h = ap₂ ◌∷◌ (sym (turn_up n k (omega arith))) (turns_up n d (k + 1) (omega arith))
-
-turns_down : (n d k : ℕ) → n ≤ k → k + d ≡ 2 * n → turns n d k ≡ down d
-unfolding turns down
-turns_down n zero k h e = refl
-turns_down n (suc d) k h e =
-    let f : 2 * n - (k + 1) ≡ d = omega arith in
-    ap₂ ◌∷◌ (sym (turn_down n k h) ∙ f) (turns_down n d (k + 1) (omega arith) (omega arith))
-
-turns_on : (n c d k : ℕ) → turns n (c + d) k ≡ turns n c k ++ turns n d (k + c)
-unfolding turns
-turns_on n zero d k = let e : k + 0 ≡ k = omega arith in let f : 0 + d ≡ d = omega arith in rw (e, f)
-turns_on n (suc c) d k =
-    let e : k + suc c ≡ k + 1 + c = omega arith in
-    let f : suc c + d ≡ suc (c + d) = omega arith in
-    rw (e, f) (ap (λ is. turn n k ∷ is) (turns_on n c d (k + 1)))
-
-one_half : (n : ℕ) → turns n (1 * n) 0 ≡ up n 0
-one_half n = let e : 1 * n ≡ n = omega arith in rw e (turns_up n n 0 (omega arith))
-
-both_halves : (n : ℕ) → turns n (2 * n) 0 ≡ up n 0 ++ down n
-both_halves n =
-    let e : 2 * n ≡ n + n = omega arith in
-    let f : 0 + n ≡ n = omega arith in
-    ap (λ d. turns n d 0) e ∙ turns_on n n n 0 ∙ ap₂ ◌++◌ (turns_up n n 0 (omega arith)) (rw f (turns_down n n n (omega arith) (omega arith)))
+use Rattle.sweep.specs.Code.{pass}
 
 -- ---- components that a box of n has
 abbrev pub Below : (n : ℕ) → List ℕ → Type 0
@@ -99,8 +52,8 @@ along_both sum s (i ∷ is) js X = go (is_empty v) (along_both sum s is js (put 
     v = component sum s X i
 
     go : (t : Bool) → and_then (along sum s is (put X i v)) (λ Y. along sum s js Y) ≡ along sum s (is ++ js) (put X i v)
-        → and_then (cond t (refused (outcome.Empty (i + 1))) (along sum s is (put X i v))) (λ Y. along sum s js Y) ≡
-        cond t (refused (outcome.Empty (i + 1))) (along sum s (is ++ js) (put X i v))
+        → and_then (cond t (refused (refusal.Empty (i + 1))) (along sum s is (put X i v))) (λ Y. along sum s js Y) ≡
+        cond t (refused (refusal.Empty (i + 1))) (along sum s (is ++ js) (put X i v))
     go true e = refl
     go false e = e
 
@@ -108,11 +61,29 @@ pub symmetric_along : (sum : RowSum) (s : System) (X : List ℤ) → symmetric s
 unfolding symmetric sweep
 symmetric_along sum s X = along_both sum s (up s.size 0) (down s.size) X
 
--- ---- the passes
-pub pass_sweep : (s : System) → pass 1 s ≡ sweep once s
-unfolding pass sweep
-pass_sweep s = λ i X. along once s (one_half s.size i) X
+-- ---- the components that a pass still has to go over: i and on, and then back
+pub up_more : {n i : ℕ} → i < n → up (n - i) i ≡ i ∷ up (n - (i + 1)) (i + 1)
+unfolding up
+up_more {n} {i} h = let e : n - i ≡ suc (n - (i + 1)) = omega arith in rw e
 
-pub pass_symmetric : (s : System) → pass 2 s ≡ symmetric once s
-unfolding pass
-pass_symmetric s = λ i X. (ap (λ is. along once s is X) (both_halves s.size) ∙ sym (symmetric_along once s X)) i
+pub up_end : {n i : ℕ} → n ≤ i → up (n - i) i ≡ []
+unfolding up
+up_end {n} {i} h = let e : n - i ≡ 0 = omega arith in rw e
+
+pub down_more : (i : ℕ) → 0 < i → down i ≡ (i - 1) ∷ down (i - 1)
+unfolding down
+down_more zero h = absurd (omega arith)
+down_more (suc i) h = let e : suc i - 1 ≡ i = omega arith in rw e
+
+pub down_end : {i : ℕ} → i ≤ 0 → down i ≡ []
+unfolding down
+down_end {i} h = let e : i ≡ 0 = omega arith in rw e
+
+abbrev pub back : Way → (n : ℕ) → List ℕ
+back There n = []
+back ThereAndBack n = down n
+
+pub pass_along : (w : Way) (s : System) (X : List ℤ) → pass w s X ≡ along once s (up s.size 0 ++ back w s.size) X
+unfolding sweep
+pass_along There s X = ap (λ is. along once s is X) (sym (append-nil (up s.size 0)))
+pass_along ThereAndBack s X = symmetric_along once s X

@@ -1,16 +1,18 @@
 -- Document 01, Sweeps: a call with its number of sweeps allowed, whatever one pass over the box is.
-use Rattle.std.specs.Prelude.{cond, ◌&&◌, List, [], ◌∷◌, ℕ, zero, suc, leb, ℤ, length}
-use Rattle.outcome.specs.declared.Outcome.{Outcome}
-use Rattle.outcome.specs.declared.Outcome.TheVariants as outcome
+use Rattle.std.specs.Prelude.{cond, ◌&&◌, List, [], ◌∷◌, ℕ, zero, suc, leb, ℤ, Ok, Err, length}
+use Rattle.outcome.specs.declared.Ending.TheVariants.{Done, Spent}
+use Rattle.outcome.specs.declared.Refusal.{Refusal}
+use Rattle.outcome.specs.declared.Refusal.TheVariants as refusal
+use Rattle.outcome.specs.Table.{Outcome}
 use Rattle.outcome.specs.Run.{Run, refused, done, Returned, returned}
-use Rattle.inputs.specs.declared.Test.{Test}
+use Rattle.inputs.specs.Tests.{Test}
 use Rattle.inputs.specs.Tests.{both, need, sizes, all_proper}
 use Rattle.inputs.specs.System.{System, slices, parts}
 use Rattle.sweep.specs.Pass.{differ}
 
 -- what the sweeps of a call do, in sequence: each whole one with the box that it leaves, and how they end
 pub data Log : Type 0 where
-  stopped : Outcome → Log
+  stopped : Refusal → Log
   settled : Log
   spent : Log
   swept : List ℤ → Log → Log
@@ -34,9 +36,9 @@ count (swept Y l) = suc (count l)
 
 -- 0 settled, 9 spent, or the refusal of a pass
 abbrev pub ending : Log → Outcome
-ending (stopped o) = o
-ending settled = outcome.Done
-ending spent = outcome.Spent
+ending (stopped o) = Err o
+ending settled = Ok Done
+ending spent = Ok Spent
 ending (swept Y l) = ending l
 
 -- the box at the end, from the one that was lent and the one before these sweeps: a refusal leaves the lent one
@@ -52,7 +54,7 @@ concluded X l = returned (ending l) (count l) (last l X X)
 
 -- 4: 'sweeps allowed are 0 or above 10,000'
 unfoldable pub allowance : ℕ → Test
-allowance k = need (leb 1 k && leb k 10_000) outcome.Allowed
+allowance k = need (leb 1 k && leb k 10_000) refusal.Allowed
 
 -- 'Tests run in the sequence 8, 1, 2, 4, 3'
 unfoldable pub tests : System → (allowed : ℕ) → List ℤ → Test

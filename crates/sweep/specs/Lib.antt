@@ -2,3 +2,4 @@ pub mod Pass
 pub mod Call
 pub mod Calls
 pub mod Code
+pub mod Stays

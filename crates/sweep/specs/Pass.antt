@@ -1,7 +1,7 @@
 -- Document 01, Sweeps; document 003, rule b)*: one sweep. Document 02, A5; document 001, section 4 and footnote 3: one pass there and back.
 use Rattle.std.specs.Prelude.{Bool, false, cond, ◌||◌, List, [], ◌∷◌, ℕ, zero, suc, ◌+◌, ◌*◌, ℤ}
 use Rattle.std.specs.Int.Signed.{lt_z}
-use Rattle.outcome.specs.declared.Outcome.TheVariants as outcome
+use Rattle.outcome.specs.declared.Refusal.TheVariants as refusal
 use Rattle.outcome.specs.Run.{Run, refused, done, and_then}
 use Rattle.interval.specs.declared.Interval.{Interval}
 use Rattle.interval.specs.Interval.{exact_sum, intersection, is_empty}
@@ -18,7 +18,7 @@ component sum s X i = intersection (exact_sum (at s.right i) (sum s.matrix (i * 
 unfoldable pub along : RowSum → System → List ℕ → List ℤ → Run (List ℤ)
 along sum s [] X = done X
 along sum s (i ∷ is) X =
-    cond (is_empty (component sum s X i)) (refused (outcome.Empty (i + 1))) (along sum s is (put X i (component sum s X i)))
+    cond (is_empty (component sum s X i)) (refused (refusal.Empty (i + 1))) (along sum s is (put X i (component sum s X i)))
 
 -- the components i, i + 1, .., d of them; and i − 1, i − 2, .., 0
 unfoldable pub up : (d i : ℕ) → List ℕ

@@ -8,23 +8,26 @@ ghost use Rattle.inputs.specs.System.{system};
 ghost use Rattle.sweep.specs.Calls.{sweep_call, symmetric_call, call};
 
 use crate::internal::calls::swept;
+use crate::internal::pass::Way;
 use outcome::Outcome;
 
 // What a sweep call of either kind returns: its outcome and the number of whole sweeps done.
-#[derive(Clone, Copy)]
+#[derive(Clone, Copy, Debug, PartialEq, Eq)]
 pub struct Swept {
     pub outcome: Outcome,
     pub count: usize,
 }
 
+#[tactic(auto, using(crate::proofs::Log::sweep_called))]
 // Tightens the lent box by at most so many sweeps.
 pub fn sweep(n: usize, b_matrix: &[i64], b: &[i64], bounds: &mut [i64], allowed: usize) -> Swept
     ensures { returned result.outcome result.count bounds.new ≡
         call (system n b_matrix.now b.now) (sweep_call allowed) bounds.old }
 {
-    swept(n, 1, b_matrix, b, bounds, allowed)
+    swept(n, Way::There, b_matrix, b, bounds, allowed)
 }
 
+#[tactic(auto, using(crate::proofs::Log::symmetric_called))]
 // Tightens the lent box by at most so many passes there and back, each counted as one sweep.
 pub fn symmetric_sweep(
     n: usize,
@@ -36,5 +39,5 @@ pub fn symmetric_sweep(
     ensures { returned result.outcome result.count bounds.new ≡
         call (system n b_matrix.now b.now) (symmetric_call allowed) bounds.old }
 {
-    swept(n, 2, b_matrix, b, bounds, allowed)
+    swept(n, Way::ThereAndBack, b_matrix, b, bounds, allowed)
 }

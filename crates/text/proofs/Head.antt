@@ -9,31 +9,35 @@ use borrow.Author.Tests.{le-leb, lt-leb}
 use lib.IntN.{ℤ}
 use lib.ListN.{length, take, drop}
 use lib.Seq.{take-take, take-add, drop_at, length-take-le}
-use Rattle.outcome.specs.Run.{Run, done, and_then}
+use Rattle.std.specs.Prelude.{Option, Some, None, ok_or, Result, Ok, Err}
+use Rattle.outcome.specs.declared.Refusal.{Refusal}
+use Rattle.outcome.specs.Run.{Run, refused, done, and_then, run_of}
 use Rattle.inputs.specs.System.{system}
 use Rattle.inputs.proofs.Tests.{square}
-use Rattle.search.specs.declared.Found.TheVariants.{At, Nothing}
-use Rattle.text.specs.declared.internal.names.Names.TheVariants as names
 use Rattle.text.specs.declared.internal.lines.Heading.{Heading}
-use Rattle.text.specs.declared.internal.lines.Rows as code
-use Rattle.text.specs.declared.internal.lines.Rows.TheVariants as lines
-use Rattle.text.specs.declared.internal.lines.Reading.TheVariants as whole
 use Rattle.text.specs.Parts.{parts, fields}
 use Rattle.text.specs.Names.{are_names}
 use Rattle.text.specs.Text.{faulty, Head, first_line, head, rows_from, Cellar, after_head, reading}
 use Rattle.search.specs.First.{first_from}
-use Rattle.text.specs.Code.{names_of, Few, rows_are, Headed, reading_is}
+use Rattle.text.specs.Code.{names_of, Few, Heads, Headed, reading_is}
 use Rattle.text.proofs.Parts.{parts_at, parts_none, parts_some}
 use Rattle.text.proofs.Lines.{row_after}
 
 -- ---- a line of names, from the answer of its reader
-count_is : {n : ℕ} (b : Bool) (m : ℕ) → cond b (names.Count m) names.Faulty ≡ names.Count n → (b ≡ true) × (n ≡ m)
+count_is : {n : ℕ} (b : Bool) (m : ℕ) → cond b (Some m) None ≡ Some n → (b ≡ true) × (n ≡ m)
 count_is true m e = (refl, sym (cc e))
 count_is false m e = let z : ◌≡◌ {A = ℕ} 0 1 = cc in absurd (omega arith)
 
-count_not : (b : Bool) (m : ℕ) → cond b (names.Count m) names.Faulty ≡ names.Faulty → b ≡ false
+count_not : (b : Bool) (m : ℕ) → cond b (Some m) None ≡ None → b ≡ false
 count_not true m e = let z : ◌≡◌ {A = ℕ} 0 1 = cc in absurd (omega arith)
 count_not false m e = refl
+
+-- ---- where something is missing, `?` hands on the refusal that stands for it
+pub lost : {A : Type 0} {r : Option A} {o p : Refusal} → r ≡ None → Err o ≡ ok_or r p → o ≡ p
+lost {r = r} {o} {p} e f = let g : ok_or r p ≡ Err p = rw e in cc (f, g)
+
+pub heads_refused : (s : List ℕ) {r : Result Heading Refusal} {o p : Refusal} → r ≡ Err o → o ≡ p → head s ≡ refused p → Heads s r
+heads_refused s e f g = rw (e, f) g
 
 -- ---- line 1
 module _ (s : List ℕ) where
@@ -42,11 +46,11 @@ module _ (s : List ℕ) where
   head_long h = rw (lt-leb (length s) 65_536 h)
 
   module _ (h : length s ≤ 65_536) where
-    pub head_unended : first_from s 0 10 ≡ Nothing → head s ≡ faulty 1
+    pub head_unended : first_from s 0 10 ≡ None → head s ≡ faulty 1
     unfolding head first_line
     head_unended f = rw (le-leb (length s) 65_536 h, parts_none s 0 10 f)
 
-    module _ {e : ℕ} (f : first_from s 0 10 ≡ At e) where
+    module _ {e : ℕ} (f : first_from s 0 10 ≡ Some e) where
       head_by : head s ≡ cond (are_names (fields (take e s))) (done (record { names = take e s; rest = parts 10 (drop (e + 1) s) })) (faulty 1)
       unfolding head first_line
       head_by = rw (le-leb (length s) 65_536 h, parts_at s 0 10 e f, sub-zero e) (more (parts 10 (drop (e + 1) s)) (parts_some 10 (drop (e + 1) s)))
@@ -55,11 +59,11 @@ module _ (s : List ℕ) where
           more [] k = absurd (omega arith)
           more (p ∷ ps) k = refl
 
-      pub head_faulty : names_of (take e s) ≡ names.Faulty → head s ≡ faulty 1
+      pub head_faulty : names_of (take e s) ≡ None → head s ≡ faulty 1
       unfolding names_of
       head_faulty q = let b = count_not (are_names (fields (take e s))) (length (fields (take e s))) q in head_by ∙ rw b
 
-      pub head_named : {n : ℕ} → names_of (take e s) ≡ names.Count n → Few (take e s) (names.Count n) → e < length s → Headed s (record { count = n; stop = e })
+      pub head_named : {n : ℕ} → names_of (take e s) ≡ Some n → Few (take e s) (Some n) → e < length s → Headed s (record { count = n; stop = e })
       unfolding names_of
       head_named {n} q w k =
           let b = count_is (are_names (fields (take e s))) (length (fields (take e s))) q in
@@ -73,7 +77,7 @@ module _ (s : List ℕ) where
           }
 
 -- ---- the whole text
-pub text_head : (s : List ℕ) {k : ℕ} → head s ≡ faulty k → faulty k ≡ reading s
+pub text_head : (s : List ℕ) {o : Refusal} → head s ≡ refused o → refused o ≡ reading s
 unfolding reading and_then
 text_head s e = rw e
 
@@ -99,14 +103,14 @@ module _ {s : List ℕ} {h : Heading} (w : Headed s h) where
   unfolding reading and_then
   reading_by = rw (w.is, w.counted)
 
-  pub text_faulty : {k : ℕ} {r : code.Rows} (z : List ℤ) → r ≡ lines.Faulty k
-      → rows_are r z ≡ rows_from h.count (h.count + 1) 2 first.rest → faulty k ≡ reading s
+  pub text_faulty : {o : Refusal} {r : Result (Unit {0}) Refusal} (z : List ℤ) → r ≡ Err o
+      → run_of r z ≡ rows_from h.count (h.count + 1) 2 first.rest → refused o ≡ reading s
   unfolding and_then
   text_faulty z q e = sym (reading_by ∙ rw (← e, q))
 
-  pub text_balance : {r : code.Rows} (t : List ℤ) → length t ≡ 2112 → r ≡ lines.Whole
-      → rows_are r (take (2 * ((h.count + 1) * h.count)) t) ≡ rows_from h.count (h.count + 1) 2 first.rest
-      → reading_is s (whole.Balance h) t ≡ reading s
+  pub text_balance : {r : Result (Unit {0}) Refusal} {x : Unit {0}} (t : List ℤ) → length t ≡ 2112 → r ≡ Ok x
+      → run_of r (take (2 * ((h.count + 1) * h.count)) t) ≡ rows_from h.count (h.count + 1) 2 first.rest
+      → reading_is s (Ok h) t ≡ reading s
   unfolding and_then
   text_balance t l q e =
       let n = h.count in

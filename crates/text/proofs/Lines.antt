@@ -2,15 +2,14 @@
 use mathlib.Core.Path.{◌≡◌, refl, sym, ap, ◌∙◌}
 use mathlib.Core.Bool.{Bool, true, false}
 use mathlib.Core.List.{List, [], ◌∷◌, ◌++◌, append-nil, append_assoc}
-use mathlib.Core.Option.{Option, none, some, bind}
 use Prim.Native.Nat.{ℕ, suc, ◌+◌, ◌-◌, ◌*◌, ◌≤◌, ◌<◌}
 use native.Mathlib.Omega.{arith}
 use native.Mathlib.Nat.{add-mul, one-mul, zero-mul, sub-zero, mul-le-mul}
 use lib.Dec.{eqb}
 use lib.IntN.{ℤ}
 use lib.ListN.{length, take, drop, length-drop, drop_of_length-le}
+use Rattle.std.specs.Prelude.{Option, Some, None}
 use Rattle.outcome.specs.Run.{Run, refused, done, and_then}
-use Rattle.search.specs.declared.Found.TheVariants.{At, Nothing}
 use Rattle.text.specs.Parts.{longer, parts, fields}
 use Rattle.text.specs.Number.{then, values}
 use Rattle.text.specs.Text.{faulty, on_line, before, at_end, rows_from}
@@ -21,7 +20,7 @@ use Rattle.text.proofs.Parts.{parts_at, parts_none, parts_some}
 abbrev line_then : (k : ℕ) → Option (List ℤ) → Run (List ℤ) → Run (List ℤ)
 line_then k v R = and_then (on_line k v) (λ xs. before xs R)
 
-never : {A : Type 0} {xs : List ℤ} → none ≡ some xs → A
+never : {A : Type 0} {xs : List ℤ} → None ≡ Some xs → A
 never e = let z : ◌≡◌ {A = ℕ} 0 1 = cc in absurd (omega arith)
 
 before_assoc : (a zs : List ℤ) (R : Run (List ℤ)) → before a (before zs R) ≡ before (a ++ zs) R
@@ -30,15 +29,15 @@ before_assoc a zs (refused o) = refl
 before_assoc a zs (done ys) = ap {B = Run (List ℤ)} done (sym (append_assoc a zs ys))
 
 module _ (a : List ℤ) (k : ℕ) (R : Run (List ℤ)) where
-  line_read : {z : List ℤ} (v : Option (List ℤ)) → some z ≡ then (some a) v → before a (line_then k v R) ≡ before z R
-  unfolding then bind on_line and_then
-  line_read none e = never (sym e)
-  line_read {z} (some zs) e = let f : z ≡ a ++ zs = cc e in before_assoc a zs R ∙ ap (λ l. before l R) (sym f)
+  line_read : {z : List ℤ} (v : Option (List ℤ)) → Some z ≡ then (Some a) v → before a (line_then k v R) ≡ before z R
+  unfolding then on_line and_then
+  line_read None e = never (sym e)
+  line_read {z} (Some zs) e = let f : z ≡ a ++ zs = cc e in before_assoc a zs R ∙ ap (λ l. before l R) (sym f)
 
-  line_not : (v : Option (List ℤ)) → none ≡ then (some a) v → before a (line_then k v R) ≡ faulty k
-  unfolding then bind on_line before and_then
-  line_not none e = refl
-  line_not (some zs) e = never e
+  line_not : (v : Option (List ℤ)) → None ≡ then (Some a) v → before a (line_then k v R) ≡ faulty k
+  unfolding then on_line before and_then
+  line_not None e = refl
+  line_not (Some zs) e = never e
 
 -- ---- something after the last line
 surplus : (k : ℕ) (xs : List ℕ) → 0 < length xs → at_end k (parts 10 xs) ≡ faulty k
@@ -50,17 +49,17 @@ surplus k (x ∷ xs) h = go (eqb x 10) refl
     empty [] l = absurd (omega arith)
     empty (p ∷ ps) l = refl
 
-    some : (ps : List (List ℕ)) → at_end k (longer x ps) ≡ faulty k
-    some [] = refl
-    some (p ∷ ps) = refl
+    more : (ps : List (List ℕ)) → at_end k (longer x ps) ≡ faulty k
+    more [] = refl
+    more (p ∷ ps) = refl
 
     go : (t : Bool) → eqb x 10 ≡ t → at_end k (parts 10 (x ∷ xs)) ≡ faulty k
     go true f = rw f (empty (parts 10 xs) (parts_some 10 xs))
-    go false f = rw f (some (parts 10 xs))
+    go false f = rw f (more (parts 10 xs))
 
 -- ---- i of the n + 1 lines are read; the next is line i + 2
 module _ (s : List ℕ) (at n i : ℕ) (a : List ℤ) where
-  one_more : {e : ℕ} → first_from s at 10 ≡ At e → i < n + 1
+  one_more : {e : ℕ} → first_from s at 10 ≡ Some e → i < n + 1
       → rows_from n (n + 1 - i) (i + 2) (parts 10 (drop at s)) ≡ line_then (i + 2) (values n (fields (take (e - at) (drop at s)))) (rows_from n (n + 1 - (i + 1)) (i + 1 + 2) (parts 10 (drop (e + 1) s)))
   unfolding rows_from
   one_more {e} f h =
@@ -76,16 +75,16 @@ module _ (s : List ℕ) (at n i : ℕ) (a : List ℤ) where
       more [] k = absurd (omega arith)
       more (p ∷ ps) k = refl
 
-  pub rows_go : {e : ℕ} {z : List ℤ} → first_from s at 10 ≡ At e → i < n + 1 → some z ≡ then (some a) (values n (fields (take (e - at) (drop at s))))
+  pub rows_go : {e : ℕ} {z : List ℤ} → first_from s at 10 ≡ Some e → i < n + 1 → Some z ≡ then (Some a) (values n (fields (take (e - at) (drop at s))))
       → before a (rows_from n (n + 1 - i) (i + 2) (parts 10 (drop at s))) ≡ before z (rows_from n (n + 1 - (i + 1)) (i + 1 + 2) (parts 10 (drop (e + 1) s)))
   rows_go f h q = ap (before a) (one_more f h) ∙ line_read a (i + 2) _ _ q
 
-  pub rows_out : {e : ℕ} → first_from s at 10 ≡ At e → i < n + 1 → none ≡ then (some a) (values n (fields (take (e - at) (drop at s))))
+  pub rows_out : {e : ℕ} → first_from s at 10 ≡ Some e → i < n + 1 → None ≡ then (Some a) (values n (fields (take (e - at) (drop at s))))
       → before a (rows_from n (n + 1 - i) (i + 2) (parts 10 (drop at s))) ≡ faulty (i + 2)
   rows_out f h q = ap (before a) (one_more f h) ∙ line_not a (i + 2) _ _ q
 
   -- a missing line, or an unended one
-  pub rows_missing : first_from s at 10 ≡ Nothing → i < n + 1 → before a (rows_from n (n + 1 - i) (i + 2) (parts 10 (drop at s))) ≡ faulty (i + 2)
+  pub rows_missing : first_from s at 10 ≡ None → i < n + 1 → before a (rows_from n (n + 1 - i) (i + 2) (parts 10 (drop at s))) ≡ faulty (i + 2)
   unfolding rows_from before and_then
   rows_missing f h =
       let d : n + 1 - i ≡ suc (n + 1 - (i + 1)) = omega arith in

@@ -2,13 +2,14 @@
 use mathlib.Core.Path.{◌≡◌, refl, sym, ◌∙◌}
 use mathlib.Core.Bool.{Bool, true, false, not, ◌&&◌, ◌||◌}
 use mathlib.Core.List.{List, [], ◌∷◌, ◌++◌}
-use Prim.Native.Nat.{ℕ, ◌+◌, ◌≤◌, ◌<◌}
-use native.Mathlib.Numerals.{add-one}
+use Prim.Native.Nat.{ℕ, ◌≤◌, ◌<◌}
 use native.Mathlib.Omega.{arith}
 use borrow.Author.Tests.{le-leb, lt-leb, leb-true, leb-false, not-true, eq-eqb, ne_eqb, eqb-true}
 use lib.Dec.{eqb, leb}
-use lib.ListN.{length, get_or, drop, drop_of_length-le}
-use lib.Seq.{drop-cons}
+use lib.ListN.{length}
+use Rattle.std.specs.Char.{is_ascii_alphanumeric}
+use Rattle.std.specs.Int.{is_in_range}
+use Rattle.std.specs.List.{list_all}
 use Rattle.interval.proofs.Range.{and_both}
 use Rattle.text.specs.Number.{is_digit}
 use Rattle.text.specs.Names.{name_byte, all_bytes, is_name, same, among, each_name}
@@ -17,9 +18,6 @@ pub false_not : {A : Type 0} → false ≡ true → A
 false_not e = let z : ◌≡◌ {A = ℕ} 0 1 = cc in absurd (omega arith)
 
 -- ---- the bytes of a name
-within : (lo hi b : ℕ) → lo ≤ b → b ≤ hi → (leb lo b && leb b hi) ≡ true
-within lo hi b h k = rw (le-leb lo b h, le-leb b hi k)
-
 outside : (lo hi b : ℕ) → (lo ≤ b → hi < b) → (leb lo b && leb b hi) ≡ false
 outside lo hi b h = go (leb lo b) refl
   where
@@ -27,24 +25,20 @@ outside lo hi b h = go (leb lo b) refl
     go true e = rw (e, lt-leb b hi (h (leb-true lo b e)))
     go false e = rw e
 
+either_way : (d u l m : Bool) → (((d || u) || l) || m) ≡ (u || (l || (d || m)))
+either_way true true l m = refl
+either_way true false true m = refl
+either_way true false false m = refl
+either_way false true l m = refl
+either_way false false l m = refl
+
 module _ (b : ℕ) where
-  pub byte_capital : 65 ≤ b → b ≤ 90 → true ≡ name_byte b
-  unfolding name_byte
-  byte_capital h k = rw (within 65 90 b h k)
-
-  pub byte_small : 97 ≤ b → b ≤ 122 → true ≡ name_byte b
-  unfolding name_byte
-  byte_small h k = rw (outside 65 90 b (λ i. omega arith), within 97 122 b h k)
-
-  pub byte_digit : 48 ≤ b → b ≤ 57 → true ≡ name_byte b
+  -- as the library tests it
+  pub byte_is : (is_ascii_alphanumeric b || eqb b 45) ≡ name_byte b
   unfolding name_byte is_digit
-  byte_digit h k = rw (outside 65 90 b (λ i. omega arith), outside 97 122 b (λ i. omega arith), within 48 57 b h k)
+  byte_is = either_way (is_in_range 48 57 b) (is_in_range 65 90 b) (is_in_range 97 122 b) (eqb b 45)
 
-  pub byte_dash : b ≡ 45 → true ≡ name_byte b
-  unfolding name_byte is_digit
-  byte_dash e = rw e
-
-  pub byte_none : (65 ≤ b → 90 < b) → (97 ≤ b → 122 < b) → (48 ≤ b → 57 < b) → (b ≡ 45 → ⊥) → false ≡ name_byte b
+  byte_none : (65 ≤ b → 90 < b) → (97 ≤ b → 122 < b) → (48 ≤ b → 57 < b) → (b ≡ 45 → ⊥) → false ≡ name_byte b
   unfolding name_byte is_digit
   byte_none f g h i = rw (outside 65 90 b f, outside 97 122 b g, outside 48 57 b h, ne_eqb b 45 i)
 
@@ -76,18 +70,10 @@ module _ (s : List ℕ) where
       let h = and_both (leb (length s) 16) (all_bytes s) (and_both (leb 1 (length s)) (leb (length s) 16 && all_bytes s) e).1 in
       (leb-true (length s) 16 h.0, h.1)
 
-module _ (s : List ℕ) (i : ℕ) where
-  pub bytes_end : length s ≤ i → all_bytes (drop i s) ≡ true
-  unfolding all_bytes
-  bytes_end h = rw (drop_of_length-le s h)
-
-  pub bytes_go : i < length s → name_byte (get_or s i 0) ≡ true → all_bytes (drop i s) ≡ all_bytes (drop (i + 1) s)
-  unfolding all_bytes
-  bytes_go h e = rw (add-one, drop-cons s i 0, e)
-
-  pub bytes_out : i < length s → name_byte (get_or s i 0) ≡ false → all_bytes (drop i s) ≡ false
-  unfolding all_bytes
-  bytes_out h e = rw (drop-cons s i 0, e)
+pub bytes_all : (s : List ℕ) → list_all name_byte s ≡ all_bytes s
+unfolding all_bytes
+bytes_all [] = refl
+bytes_all (b ∷ s) = rw (bytes_all s)
 
 -- ---- names that differ
 same_self : (s : List ℕ) → same s s ≡ true

@@ -7,18 +7,18 @@ use native.Mathlib.Omega.{arith}
 use lib.Dec.{eqb}
 use lib.ListN.{length, take, drop, length-drop}
 use lib.Seq.{drop-drop, take_all}
-use Rattle.search.specs.declared.Found.TheVariants.{At, Nothing}
+use Rattle.std.specs.Prelude.{Some, None}
 use Rattle.search.specs.First.{first_in, first_from}
 use Rattle.search.proofs.Answer.{found_not}
 use Rattle.text.specs.Parts.{longer, parts}
 
 -- the parts of a list, by where the first b stands in it
-parts_none_in : (xs : List ℕ) (b i : ℕ) → first_in xs b i ≡ Nothing → parts b xs ≡ xs ∷ []
+parts_none_in : (xs : List ℕ) (b i : ℕ) → first_in xs b i ≡ None → parts b xs ≡ xs ∷ []
 unfolding first_in parts longer
 parts_none_in [] b i e = refl
 parts_none_in (x ∷ xs) b i e = go (eqb x b) refl (parts_none_in xs b (i + 1))
   where
-    go : (t : Bool) → eqb x b ≡ t → (first_in xs b (i + 1) ≡ Nothing → parts b xs ≡ xs ∷ []) → parts b (x ∷ xs) ≡ (x ∷ xs) ∷ []
+    go : (t : Bool) → eqb x b ≡ t → (first_in xs b (i + 1) ≡ None → parts b xs ≡ xs ∷ []) → parts b (x ∷ xs) ≡ (x ∷ xs) ∷ []
     go true f r = found_not (rw f at e)
     go false f r = let q : parts b xs ≡ xs ∷ [] = r (rw f at e) in rw (f, q)
 
@@ -26,14 +26,14 @@ pub record Cut (xs : List ℕ) (b i e : ℕ) : Type 0 where
   pub from : i ≤ e
   pub cut : parts b xs ≡ take (e - i) xs ∷ parts b (drop (e - i + 1) xs)
 
-parts_at_in : (xs : List ℕ) (b i e : ℕ) → first_in xs b i ≡ At e → Cut xs b i e
+parts_at_in : (xs : List ℕ) (b i e : ℕ) → first_in xs b i ≡ Some e → Cut xs b i e
 unfolding first_in parts longer
 parts_at_in [] b i e h = found_not (sym h)
 parts_at_in (x ∷ xs) b i e h = go (eqb x b) refl (parts_at_in xs b (i + 1) e)
   where
-    go : (t : Bool) → eqb x b ≡ t → (first_in xs b (i + 1) ≡ At e → Cut xs b (i + 1) e) → Cut (x ∷ xs) b i e
+    go : (t : Bool) → eqb x b ≡ t → (first_in xs b (i + 1) ≡ Some e → Cut xs b (i + 1) e) → Cut (x ∷ xs) b i e
     go true f r =
-        let z : At i ≡ At e = rw f at h in
+        let z : Some i ≡ Some e = rw f at h in
         let y : i ≡ e = cc z in
         let d : e - i ≡ 0 = omega arith in
         record { from = omega arith; cut = rw (d, f) }
@@ -44,11 +44,11 @@ parts_at_in (x ∷ xs) b i e h = go (eqb x b) refl (parts_at_in xs b (i + 1) e)
         record { from = omega (arith, q.from); cut = rw (m, d, f, q.cut) }
 
 module _ (s : List ℕ) (from b : ℕ) where
-  pub parts_none : first_from s from b ≡ Nothing → parts b (drop from s) ≡ drop from s ∷ []
+  pub parts_none : first_from s from b ≡ None → parts b (drop from s) ≡ drop from s ∷ []
   unfolding first_from
   parts_none e = parts_none_in (drop from s) b from e
 
-  pub parts_at : (e : ℕ) → first_from s from b ≡ At e → parts b (drop from s) ≡ take (e - from) (drop from s) ∷ parts b (drop (e + 1) s)
+  pub parts_at : (e : ℕ) → first_from s from b ≡ Some e → parts b (drop from s) ≡ take (e - from) (drop from s) ∷ parts b (drop (e + 1) s)
   unfolding first_from
   parts_at e h =
       let r = parts_at_in (drop from s) b from e h in

@@ -1,17 +1,17 @@
 -- A text is refused with 8, and with no other number.
 use mathlib.Core.Path.{◌≡◌, subst}
 use mathlib.Core.List.{List, [], ◌∷◌}
-use mathlib.Core.Option.{Option, none, some}
 use Prim.Native.Nat.{ℕ, zero, suc}
 use lib.IntN.{ℤ}
-use Rattle.outcome.specs.declared.Outcome.{Outcome}
+use Rattle.outcome.specs.declared.Refusal.{Refusal}
+use Rattle.std.specs.Prelude.{Option, Some, None, Err}
 use Rattle.outcome.specs.Table.{number_and_place}
 use Rattle.outcome.specs.Run.{refused}
 use Rattle.outcome.proofs.Run.{Refuses, refuses_done, refuses_with, refuses_cond, refuses_then}
 use Rattle.text.specs.Text.{first_line, head, on_line, before, at_end, rows_from, reading}
 
-abbrev Eight : Outcome → Type 0
-Eight o = (number_and_place o).number ≡ 8
+abbrev Eight : Refusal → Type 0
+Eight o = (number_and_place (Err o)).number ≡ 8
 
 ruleset parts = (refuses_done, refuses_with, refuses_cond, refuses_then)
 
@@ -27,8 +27,8 @@ on_head text = search (parts, on_first)
 
 on_line_lem : (k : ℕ) (o : Option (List ℤ)) → Refuses Eight (on_line k o)
 unfolding on_line
-on_line_lem k none = search parts
-on_line_lem k (some xs) = search parts
+on_line_lem k None = search parts
+on_line_lem k (Some xs) = search parts
 
 on_end : (k : ℕ) (ls : List (List ℕ)) → Refuses Eight (at_end k ls)
 unfolding at_end
@@ -44,7 +44,7 @@ on_rows n (suc d) k [] = search parts
 on_rows n (suc d) k (l ∷ []) = search parts
 on_rows n (suc d) k (l ∷ (r ∷ rs)) = search (parts, on_line_lem, on_rows n d)
 
-pub refused_eight : (text : List ℕ) {o : Outcome} → reading text ≡ refused o → (number_and_place o).number ≡ 8
+pub refused_eight : (text : List ℕ) {o : Refusal} → reading text ≡ refused o → (number_and_place (Err o)).number ≡ 8
 unfolding reading
 refused_eight text {o} e =
     let h : Refuses Eight (reading text) = search (parts, on_head, on_rows) in

@@ -1,36 +1,33 @@
 -- What each way through the code says of a vat's name.
 use mathlib.Core.Path.{◌≡◌, sym, ap, ◌∙◌}
 use mathlib.Core.List.{List, []}
+use mathlib.Core.Logic.{◌⊎◌, inl, inr}
 use Prim.Native.Nat.{ℕ, ◌+◌, ◌-◌, ◌≤◌, ◌<◌}
 use native.Mathlib.Omega.{arith}
 use native.Mathlib.Nat.{zero-add}
 use borrow.Author.Tests.{le-leb, lt-leb}
 use lib.ListN.{length, take, drop, length-drop}
 use lib.Seq.{length-take-le}
+use Rattle.outcome.specs.declared.Refusal.{Refusal}
+use Rattle.outcome.specs.Run.{refused}
 use Rattle.text.specs.declared.internal.lines.Heading.{Heading}
 use Rattle.text.specs.Parts.{fields, part, start_of}
-use Rattle.text.specs.Text.{faulty, head}
+use Rattle.text.specs.Text.{head}
 use Rattle.text.specs.Call.{nowhere, bytes_of, name_span}
 use Rattle.text.specs.Code.{Headed}
 
 module _ (s : List ℕ) (v : ℕ) where
-  pub name_none : {k : ℕ} → head s ≡ faulty k → nowhere ≡ name_span s v
+  pub name_none : {o : Refusal} → head s ≡ refused o → nowhere ≡ name_span s v
   unfolding name_span
   name_none e = rw e
 
   module _ {h : Heading} (w : Headed s h) where
-    pub name_low : v < 1 → nowhere ≡ name_span s v
+    pub name_outside : (v < 1) ⊎ ((1 ≤ v) × (h.count < v)) → nowhere ≡ name_span s v
     unfolding name_span
-    name_low k = rw (w.is, lt-leb 1 v k)
-
-    pub name_high : 1 ≤ v → h.count < v → nowhere ≡ name_span s v
-    unfolding name_span
-    name_high k g =
-        let m : length (fields (take h.stop s)) < v = rw w.counted at g in
-        rw (w.is, le-leb 1 v k, lt-leb v (length (fields (take h.stop s))) m)
-
-    pub within_line : 1 ≤ v → v ≤ h.count → v - 1 < length (fields (take h.stop s))
-    within_line k g = omega (arith, w.counted)
+    name_outside (inl k) = rw (w.is, lt-leb 1 v k)
+    name_outside (inr k) =
+        let m : length (fields (take h.stop s)) < v = rw w.counted at k.1 in
+        rw (w.is, le-leb 1 v k.0, lt-leb v (length (fields (take h.stop s))) m)
 
     pub name_span_lem : 1 ≤ v → v ≤ h.count → (a e : ℕ) → a ≡ start_of (fields (take h.stop s)) (v - 1)
         → part (fields (drop a (take h.stop s))) 0 ≡ part (fields (take h.stop s)) (v - 1)

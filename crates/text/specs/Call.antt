@@ -1,9 +1,8 @@
 -- The two calls over a text: its numbers, and a vat's name.
-use Rattle.std.specs.Prelude.{cond, ◌&&◌, List, [], ◌∷◌, ◌++◌, ℕ, ◌-◌, leb, ℤ, length, take, drop}
-use Rattle.outcome.specs.declared.Outcome.TheVariants as outcome
+use Rattle.std.specs.Prelude.{cond, ◌&&◌, List, [], ◌∷◌, ◌++◌, ℕ, ◌-◌, leb, ℤ, Ok, length, take, drop}
+use Rattle.outcome.specs.declared.Ending.TheVariants.{Done}
 use Rattle.outcome.specs.Run.{Run, refused, done, and_then, Returned, returned, ended}
-use Rattle.inputs.specs.declared.Test.{Test}
-use Rattle.inputs.specs.Tests.{slice, lengths, tested}
+use Rattle.inputs.specs.Tests.{Test, slice, lengths, tested}
 use Rattle.inputs.specs.System.{System}
 use Rattle.text.specs.Parts.{fields, part, start_of}
 use Rattle.text.specs.Text.{Head, head, reading}
@@ -26,7 +25,7 @@ over s lent = s ++ drop (length s) lent
 
 -- n is the count
 abbrev pub filled : Lent → System → Returned Lent
-filled s b = returned outcome.Done b.size (lent (over b.matrix s.matrix) (over b.right s.right))
+filled s b = returned (Ok Done) b.size (lent (over b.matrix s.matrix) (over b.right s.right))
 
 -- 'Tests run in the sequence 8, 1, 2, 4, 3, then the calculation': here 8, then 2
 unfoldable pub read : List ℕ → Lent → Returned Lent

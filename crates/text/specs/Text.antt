@@ -1,8 +1,7 @@
 -- Document 01, The cellar text: 'Line 1: n names. Then n lines of B and one line of b, each with n values in the sequence of the names.
 -- Each line ends with byte 10; there are n+2 lines.'
-use Rattle.std.specs.Prelude.{cond, List, [], ◌∷◌, ◌++◌, ℕ, zero, suc, ◌+◌, ◌*◌, leb, ℤ, length, take, drop}
-use Rattle.std.proofs.Math.Option.{Option, none, some}
-use Rattle.outcome.specs.declared.Outcome.TheVariants as outcome
+use Rattle.std.specs.Prelude.{cond, List, [], ◌∷◌, ◌++◌, ℕ, zero, suc, ◌+◌, ◌*◌, leb, ℤ, length, take, drop, Option, Some, None}
+use Rattle.outcome.specs.declared.Refusal.TheVariants as refusal
 use Rattle.outcome.specs.Run.{Run, refused, done, and_then}
 use Rattle.inputs.specs.System.{System, system}
 use Rattle.text.specs.Parts.{parts, fields}
@@ -12,7 +11,7 @@ use Rattle.text.specs.Names.{are_names}
 -- The lines of a text are the parts between its bytes 10. The last part has no byte 10 after it: it is an unended line, or empty.
 -- 'Number 8 names the first faulty line, from 1; a missing line counts as faulty, and so do a surplus line and an unended one.'
 abbrev pub faulty : {A : Type 0} → (line : ℕ) → Run A
-faulty k = refused (outcome.Text k)
+faulty k = refused (refusal.Text k)
 
 -- ---- line 1: the names, and the parts after it
 pub record Head : Type 0 where
@@ -31,8 +30,8 @@ head text = cond (leb (length text) 65_536) (first_line (parts 10 text)) (faulty
 -- ---- the other lines
 -- line k: its numbers, if it has them
 unfoldable pub on_line : (k : ℕ) → Option (List ℤ) → Run (List ℤ)
-on_line k none = faulty k
-on_line k (some xs) = done xs
+on_line k None = faulty k
+on_line k (Some xs) = done xs
 
 -- these numbers, and then those of the lines that follow
 unfoldable pub before : List ℤ → Run (List ℤ) → Run (List ℤ)

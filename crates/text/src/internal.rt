@@ -2,5 +2,4 @@ pub mod field;
 pub mod lines;
 pub mod names;
 pub mod number;
-pub mod packed;
 pub mod values;

@@ -3,61 +3,49 @@
 pub mod internal;
 
 ghost use Rattle.std.specs.Prelude.{◌≡◌, ◌+◌, ◌≤◌, length};
-ghost use Rattle.outcome.specs.Run.{returned};
+ghost use Rattle.outcome.specs.Run.{counted};
 ghost use Rattle.text.specs.Call.{lent, read, bytes_of, name_span};
 ghost use Rattle.text.specs.Code.{handed};
 
 use crate::internal::field::{start_of, stop_from};
-use crate::internal::lines::{Head, Reading, read_head, read_text};
-use inputs::Test;
+use crate::internal::lines::{Numbers, read_head, read_text};
+use inputs::Slice;
 use inputs::internal::copy::fill;
 use inputs::internal::lengths;
-use outcome::Outcome;
-
-// What reading a text returns: its outcome, and the number of vats, which is 0 with a refusal.
-#[derive(Clone, Copy)]
-pub struct Numbers {
-    pub outcome: Outcome,
-    pub size: usize,
-}
+use outcome::Refusal;
 
 // Hands out the numbers at the beginning of t: those of B to matrix, those of b to right.
-fn hand_out(n: usize, t: &[i64], matrix: &mut [i64], right: &mut [i64]) -> Numbers
-    requires { (n ≤ 32) × (length t.now ≡ 2112) }
-    ensures { returned result.outcome result.size (lent matrix.new right.new)
+fn hand_out(n: usize, t: &Numbers, matrix: &mut [i64], right: &mut [i64]) -> Result<usize, Refusal>
+    requires { n ≤ 32 }
+    ensures { counted result (lent matrix.new right.new)
         ≡ handed n t.now (lent matrix.old right.old) }
 {
-    match lengths(&[[1, matrix.len(), 2048], [2, right.len(), 64]]) {
-        Test::Pass => {
-            let square = 2 * (n * n);
-            let stop = square + 2 * n;
-            fill(matrix, &t[..square], 0);
-            fill(right, &t[square..stop], 0);
-            Numbers {
-                outcome: Outcome::Done,
-                size: n,
-            }
-        }
-        Test::Fail(outcome) => Numbers { outcome, size: 0 },
-    }
+    let lent_matrix = Slice {
+        place: 1,
+        held: matrix.len(),
+        wanted: 2048,
+    };
+    let lent_right = Slice {
+        place: 2,
+        held: right.len(),
+        wanted: 64,
+    };
+    lengths(&[lent_matrix, lent_right])?;
+    let square = 2 * (n * n);
+    let stop = square + 2 * n;
+    fill(matrix, &t[..square], 0);
+    fill(right, &t[square..stop], 0);
+    Ok(n)
 }
 
-// Reads a text: the numbers of B to the beginning of matrix, those of b to the beginning of right.
-pub fn read(text: &[u8], matrix: &mut [i64], right: &mut [i64]) -> Numbers
-    ensures { returned result.outcome result.size (lent matrix.new right.new)
+// Reads a text: the numbers of B to the beginning of matrix, those of b to the beginning of right. Answers the number of vats.
+pub fn read(text: &[u8], matrix: &mut [i64], right: &mut [i64]) -> Result<usize, Refusal>
+    ensures { counted result (lent matrix.new right.new)
         ≡ read text.now (lent matrix.old right.old) }
 {
-    let mut t = [0i64; 2112];
-    match read_text(text, &mut t) {
-        Reading::Balance(h) => {
-            let n = h.count;
-            hand_out(n, &t, matrix, right)
-        }
-        Reading::Faulty(line) => Numbers {
-            outcome: Outcome::Text(line),
-            size: 0,
-        },
-    }
+    let mut t: Numbers = [0; 2112];
+    let h = read_text(text, &mut t)?;
+    hand_out(h.count, &t, matrix, right)
 }
 
 // The name of a vat, by its number, as the part of the text where it stands; an empty part if there is none.
@@ -66,21 +54,14 @@ pub fn name(text: &[u8], component: usize) -> &[u8]
     ensures size { length result.now ≡ (name_span text.now component).size }
     ensures bytes { result.now ≡ bytes_of text.now (name_span text.now component) }
 {
-    match read_head(text) {
-        Head::Named(h) => {
-            let n = h.count;
-            let stop = h.stop;
-            if component < 1 {
-                return &text[..0];
-            }
-            if component > n {
-                return &text[..0];
-            }
-            let line = &text[..stop];
-            let start = start_of(line, component - 1);
-            let end = stop_from(line, start);
-            &text[start..end]
-        }
-        Head::Faulty(_) => &text[..0],
+    let Ok(h) = read_head(text) else {
+        return &text[..0];
+    };
+    if component < 1 || component > h.count {
+        return &text[..0];
     }
+    let line = &text[..h.stop];
+    let start = start_of(line, component - 1);
+    let end = stop_from(line, start);
+    &text[start..end]
 }

@@ -6,12 +6,11 @@ use native.Mathlib.Omega.{arith}
 use lib.IntN.{ℤ, pos}
 use lib.ListN.{length, replicate, drop}
 use lib.Seq.{paste}
-use Rattle.outcome.specs.declared.Outcome.{Outcome}
-use Rattle.outcome.specs.Run.{Run, and_then, Returned, returned, ended}
-use Rattle.inputs.specs.declared.Test.{Test}
-use Rattle.inputs.specs.declared.Test.TheVariants.{Pass, Fail}
-use Rattle.inputs.specs.Tests.{both, proper, Part, all_proper, tested}
-use Rattle.inputs.proofs.Tests.{square as square_few}
+use Rattle.outcome.specs.declared.Refusal.{Refusal}
+use Rattle.outcome.specs.Run.{Run, and_then, returned, answered, ended}
+use Rattle.inputs.specs.Tests.{Test, both, proper, Part, all_proper, tested}
+use Rattle.std.specs.Prelude.{Result, Ok, Err, IsErrAnd}
+use Rattle.inputs.proofs.Tests.{both_pass, both_last, square as square_few}
 use Rattle.inputs.proofs.Copy.{fronted, pasted_both}
 use Rattle.inputs.specs.System as inputs
 use Rattle.inputs.specs.Code.{Ended}
@@ -21,22 +20,30 @@ use Rattle.forward.specs.Formed.{formed_rows}
 use Rattle.elimination.specs.Call.{copied, solved, run_B}
 use Rattle.sweep.specs.Call as sweep
 use Rattle.sweep.specs.Call.{sweeps, allowance, concluded}
-use Rattle.sweep.specs.Calls.{Call, sweep_call, symmetric_call, run_by, returned_by, run_over}
+use Rattle.sweep.specs.Calls.{Call, sweep_call, symmetric_call, run_by, returned_by}
 use Rattle.sweep.specs.Code.{pass, Ran}
 use Rattle.sweep.specs.declared.Swept.{Swept}
-use Rattle.sweep.proofs.Turns.{pass_sweep, pass_symmetric}
+use Rattle.sweep.specs.declared.internal.pass.Way.{Way}
+use Rattle.sweep.specs.declared.internal.pass.Way.TheVariants.{There, ThereAndBack}
 use Rattle.transfers.specs.Listing.{Listing, sizes, entries, shares, intervals, filled, square, squared}
-use Rattle.transfers.specs.Call.{tests, sweep_tests, run_list, over_list, sweep_list, call_list}
-use Rattle.transfers.specs.Code.{judgement, Entered, list_over}
+use Rattle.transfers.specs.Call.{tests, sweep_tests, run_list, over_list, allowed_of, sweep_list, call_list}
+use Rattle.transfers.specs.Code.{judgement, Entered, of_way}
+use Rattle.transfers.specs.Rows.{Tested}
+use Rattle.outcome.proofs.Run.{carried}
+use Rattle.interval.specs.declared.Interval.{Interval}
 use Rattle.transfers.proofs.Judged.{passed}
-use Rattle.transfers.proofs.Sizes.{fitting}
+use Rattle.transfers.proofs.Sizes.{Fitting, fitting}
 use Rattle.transfers.proofs.Square.{length_square, square_before, square_tests, square_sweep_tests}
 
 -- ---- the records' tests, and then the intervals after them
 both_assoc : (t u v : Test) → both t (both u v) ≡ both (both t u) v
 unfolding both
-both_assoc Pass u v = refl
-both_assoc (Fail o) u v = refl
+both_assoc (Ok _) u v = refl
+both_assoc (Err o) u v = refl
+
+judged : (s : Listing) → entries s.size s.transfers ≡ Ok tt → shares s.transfers (length s.transfers) 0 ≡ Ok tt → judgement s.size s.transfers ≡ Ok tt
+unfolding judgement both
+judged s a b = rw (a, b)
 
 module _ (s : Listing) (ps : List Part) where
   -- those after the records
@@ -47,22 +54,22 @@ module _ (s : Listing) (ps : List Part) where
   unfolding judgement intervals
   together = both_assoc (entries s.size s.transfers) (shares s.transfers (length s.transfers) 0) behind
 
-  pub records_stop : {o : Outcome} → judgement s.size s.transfers ≡ Fail o → both (entries s.size s.transfers) (intervals s ps) ≡ Fail o
+  pub records_stop : {o : Refusal} → judgement s.size s.transfers ≡ Err o → both (entries s.size s.transfers) (intervals s ps) ≡ Err o
   unfolding both
   records_stop e = together ∙ rw e
 
-  module _ (e : judgement s.size s.transfers ≡ Pass) where
-    pub right_stops : {o : Outcome} → proper s.right s.size 0 (length s.transfers) ≡ Fail o → both (entries s.size s.transfers) (intervals s ps) ≡ Fail o
+  module _ (e : judgement s.size s.transfers ≡ Ok tt) where
+    pub right_stops : {o : Refusal} → proper s.right s.size 0 (length s.transfers) ≡ Err o → both (entries s.size s.transfers) (intervals s ps) ≡ Err o
     unfolding both all_proper
     right_stops f = together ∙ rw (e, f)
 
-    pub right_goes : proper s.right s.size 0 (length s.transfers) ≡ Pass
+    pub right_goes : proper s.right s.size 0 (length s.transfers) ≡ Ok tt
         → both (entries s.size s.transfers) (intervals s ps) ≡ all_proper (length s.transfers + s.size) ps
     unfolding both all_proper
     right_goes f = together ∙ rw (e, f)
 
 -- the working copy, from what was put into noughts and the right side behind it
-pub copied_is : (s : Listing) {before t₁ t₂ : List ℤ} {r : Test} → s.size ≤ 32 → Entered s.size s.transfers before r t₁ → r ≡ Pass → before ≡ replicate 2_112 (pos 0)
+pub copied_is : (s : Listing) {before t₁ t₂ : List ℤ} {r : Test} → s.size ≤ 32 → Entered s.size s.transfers before r t₁ → r ≡ Ok tt → before ≡ replicate 2_112 (pos 0)
     → t₂ ≡ paste t₁ (2 * (s.size * s.size)) s.right (length s.right) → t₂ ≡ copied (squared s)
 unfolding copied
 copied_is s {t₁ = t₁} {t₂ = t₂} few e p b g =
@@ -79,95 +86,106 @@ module _ (s : Listing) (X : List ℤ) where
   abbrev calculation : Run (List ℤ)
   calculation = and_then (formed_rows s.size s.size 0 (copied (squared s))) (λ t. solved lowest_row once s.size t)
 
-  list_fails : {o : Outcome} → tests s (length X) ≡ Fail o → returned o 0 X ≡ over_list s X
+  list_fails : {o : Refusal} → tests s (length X) ≡ Err o → returned (Err o) 0 X ≡ over_list s X
   unfolding run_list tested ended
   list_fails e = rw e
 
-  pub list_sizes : {o : Outcome} → sizes s (length X) ≡ Fail o → returned o 0 X ≡ over_list s X
+  pub list_sizes : {o : Refusal} → sizes s (length X) ≡ Err o → returned (Err o) 0 X ≡ over_list s X
   unfolding tests both
   list_sizes {o} e = list_fails {o = o} (rw e)
 
-  module _ (e : sizes s (length X) ≡ Pass) where
+  module _ (e : sizes s (length X) ≡ Ok tt) where
     after_sizes : both (entries s.size s.transfers) (intervals s []) ≡ tests s (length X)
     unfolding tests both
     after_sizes = rw e
 
-    pub list_records : {o : Outcome} → judgement s.size s.transfers ≡ Fail o → returned o 0 X ≡ over_list s X
+    pub list_records : {o : Refusal} → judgement s.size s.transfers ≡ Err o → returned (Err o) 0 X ≡ over_list s X
     list_records f = list_fails (sym after_sizes ∙ records_stop s [] f)
 
-    module _ (j : judgement s.size s.transfers ≡ Pass) where
-      pub list_right : {o : Outcome} → proper s.right s.size 0 (length s.transfers) ≡ Fail o → returned o 0 X ≡ over_list s X
+    module _ (j : judgement s.size s.transfers ≡ Ok tt) where
+      pub list_right : {o : Refusal} → proper s.right s.size 0 (length s.transfers) ≡ Err o → returned (Err o) 0 X ≡ over_list s X
       list_right f = list_fails (sym after_sizes ∙ right_stops s [] j f)
 
-      module _ (r : proper s.right s.size 0 (length s.transfers) ≡ Pass) where
-        pub list_ready : inputs.tests (squared s) (length X) ≡ Pass
+      module _ (r : proper s.right s.size 0 (length s.transfers) ≡ Ok tt) where
+        pub list_ready : inputs.tests (squared s) (length X) ≡ Ok tt
         list_ready = square_tests s (length X) (fitting s (length X) e) (passed s.size s.transfers j) (length s.transfers) r
 
-        pub list_runs : {o : Outcome} {Y : List ℤ} → Ended calculation o X Y → returned o 0 Y ≡ over_list s X
+        pub list_runs : {o : Test} {Y : List ℤ} → Ended calculation o X Y → answered o Y ≡ over_list s X
         unfolding run_list run_B tested all_proper
         list_runs h = rw (sym after_sizes ∙ right_goes s [] j r, list_ready) h.is
 
--- ---- sweeps
--- a refusal, in what a sweep call answers
-pub refuses : {o p : Outcome} {k : ℕ} {X : List ℤ} {r : Returned (List ℤ)} → (o ≡ p) × (k ≡ 0) → returned p 0 X ≡ r → returned o k X ≡ r
-refuses {X = X} e f = (λ i. returned (e.0 i) (e.1 i) X) ∙ f
+  -- a refusal that `?` hands on
+  pub list_stops : (r : Test) (o : Refusal) → IsErrAnd r (λ p. p ≡ o) → returned (Err o) 0 X ≡ over_list s X → answered r X ≡ over_list s X
+  list_stops r o h e = rw (carried r o h) e
 
-module _ (h : ℕ) (s : Listing) (k : ℕ) (X : List ℤ) where
+-- ---- sweeps
+module _ (s : Listing) (k : ℕ) (X : List ℤ) where
   abbrev box : List Part
   box = record { numbers = X; count = s.size } ∷ []
 
-  over_fails : {o : Outcome} → sweep_tests s k X ≡ Fail o → returned o 0 X ≡ list_over h s k X
-  unfolding list_over tested ended
-  over_fails e = rw e
-
-  pub over_sizes : {o : Outcome} → sizes s (length X) ≡ Fail o → returned o 0 X ≡ list_over h s k X
+  pub sweep_sizes : {o : Refusal} → sizes s (length X) ≡ Err o → sweep_tests s k X ≡ Err o
   unfolding sweep_tests both
-  over_sizes {o} e = over_fails {o = o} (rw e)
+  sweep_sizes e = rw e
 
-  module _ (e : sizes s (length X) ≡ Pass) where
-    pub over_allowed : {o : Outcome} → allowance k ≡ Fail o → returned o 0 X ≡ list_over h s k X
+  module _ (e : sizes s (length X) ≡ Ok tt) where
+    pub sweep_allowed : {o : Refusal} → allowance k ≡ Err o → sweep_tests s k X ≡ Err o
     unfolding sweep_tests both
-    over_allowed {o} a = over_fails {o = o} (rw (e, a))
+    sweep_allowed a = rw (e, a)
 
-    module _ (a : allowance k ≡ Pass) where
+    module _ (a : allowance k ≡ Ok tt) where
       after_four : both (entries s.size s.transfers) (intervals s box) ≡ sweep_tests s k X
       unfolding sweep_tests both
       after_four = rw (e, a)
 
-      pub over_records : {o : Outcome} → judgement s.size s.transfers ≡ Fail o → returned o 0 X ≡ list_over h s k X
-      over_records f = over_fails (sym after_four ∙ records_stop s box f)
+      pub sweep_records : {o : Refusal} → judgement s.size s.transfers ≡ Err o → sweep_tests s k X ≡ Err o
+      sweep_records f = sym after_four ∙ records_stop s box f
 
-      module _ (j : judgement s.size s.transfers ≡ Pass) where
-        pub over_right : {o : Outcome} → proper s.right s.size 0 (length s.transfers) ≡ Fail o → returned o 0 X ≡ list_over h s k X
-        over_right f = over_fails (sym after_four ∙ right_stops s box j f)
+      module _ (j : judgement s.size s.transfers ≡ Ok tt) where
+        pub sweep_right : {o : Refusal} → proper s.right s.size 0 (length s.transfers) ≡ Err o → sweep_tests s k X ≡ Err o
+        sweep_right f = sym after_four ∙ right_stops s box j f
 
-        module _ (r : proper s.right s.size 0 (length s.transfers) ≡ Pass) where
-          pub over_box : {o : Outcome} → proper X s.size 0 (length s.transfers + s.size) ≡ Fail o → returned o 0 X ≡ list_over h s k X
-          unfolding all_proper both
-          over_box {o} f =
-              let g : all_proper (length s.transfers + s.size) box ≡ Fail o = rw f in
-              over_fails (sym after_four ∙ right_goes s box j r ∙ g)
+        pub sweep_box : proper s.right s.size 0 (length s.transfers) ≡ Ok tt → sweep_tests s k X ≡ proper X s.size 0 (length s.transfers + s.size)
+        unfolding all_proper
+        sweep_box r = sym after_four ∙ right_goes s box j r ∙ sym (both_last _)
 
-          module _ (x : proper X s.size 0 (length s.transfers + s.size) ≡ Pass) where
-            pub over_ready : sweep.tests (squared s) k X ≡ Pass
-            over_ready = square_sweep_tests s k X (fitting s (length X) e) (passed s.size s.transfers j) (length s.transfers) r a (length s.transfers + s.size) x
+  pub sweep_stops : (ends : List ℕ) (r : Result Interval Refusal) {o : Refusal} → IsErrAnd r (λ p. p ≡ o) → sweep_tests s k X ≡ Err o → Tested s k X ends r
+  sweep_stops ends r {o} h e = rw (carried r o h) e
 
-            pub over_runs : {w : Swept} {Y : List ℤ} → Ran (sweeps s.size (pass h (squared s)) k X) X w Y → returned w.outcome w.count Y ≡ list_over h s k X
-            unfolding list_over tested ended all_proper both
-            over_runs g =
-                let p : all_proper (length s.transfers + s.size) box ≡ Pass = rw x in
-                rw (sym after_four ∙ right_goes s box j r ∙ p, over_ready) g.is
+  -- what they say when they pass
+  pub record SweepReady : Type 0 where
+    pub fitting : Fitting s (length X)
+    pub tests : sweep.tests (squared s) k X ≡ Ok tt
 
--- ---- the two calls, by the halves of their passes
-module _ (s : Listing) (k : ℕ) (X : List ℤ) where
-  pub sweep_called : list_over 1 s k X ≡ call_list s (sweep_call k) X
-  unfolding list_over returned_by sweep_list run_by
-  sweep_called = ap (λ p. ended (concluded X) X (tested (sweep_tests s k X) (run_over p (squared s) k X))) (pass_sweep (squared s))
+  pub sweep_ready : sweep_tests s k X ≡ Ok tt → SweepReady
+  unfolding sweep_tests intervals all_proper
+  sweep_ready e =
+      let f = both_pass _ _ e in
+      let g = both_pass _ _ f.1 in
+      let h = both_pass _ _ g.1 in
+      let i = both_pass _ _ h.1 in
+      let r = both_pass _ _ i.1 in
+      let x = both_pass (proper X s.size 0 (length s.transfers + s.size)) (Ok tt) r.1 in
+      let z = fitting s (length X) f.0 in
+      record {
+        fitting = z;
+        tests = square_sweep_tests s k X z (passed s.size s.transfers (judged s h.0 i.0)) (length s.transfers) r.0 g.0 (length s.transfers + s.size) x.0;
+      }
 
-  pub symmetric_called : list_over 2 s k X ≡ call_list s (symmetric_call k) X
-  unfolding list_over returned_by sweep_list run_by
-  symmetric_called = ap (λ p. ended (concluded X) X (tested (sweep_tests s k X) (run_over p (squared s) k X))) (pass_symmetric (squared s))
+-- ---- the two calls, by the way of their passes
+module _ (s : Listing) (X : List ℤ) where
+  called : (c : Call) {o : Refusal} → sweep_tests s (allowed_of c) X ≡ Err o → returned (Err o) 0 X ≡ call_list s c X
+  unfolding returned_by sweep_list tested ended
+  called c e = rw e
 
-pub call_sizes : (s : Listing) (c : Call) (X : List ℤ) {o : Outcome} → sizes s (length X) ≡ Fail o → returned o 0 X ≡ call_list s c X
-unfolding returned_by sweep_list sweep_tests both tested ended
-call_sizes s c X e = rw e
+  pub call_fails : (w : Way) (k : ℕ) {o : Refusal} → sweep_tests s k X ≡ Err o → returned (Err o) 0 X ≡ call_list s (of_way w k) X
+  call_fails There k e = called (sweep_call k) e
+  call_fails ThereAndBack k e = called (symmetric_call k) e
+
+  pub call_runs : (w : Way) (k : ℕ) → sweep_tests s k X ≡ Ok tt → {r : Swept} {Y : List ℤ}
+      → Ran (sweeps s.size (pass w (squared s)) k X) X r Y → returned r.outcome r.count Y ≡ call_list s (of_way w k) X
+  unfolding returned_by sweep_list run_by tested ended
+  call_runs There k e g = let t = (sweep_ready s k X e).tests in g.is ∙ rw (e, t)
+  call_runs ThereAndBack k e g = let t = (sweep_ready s k X e).tests in g.is ∙ rw (e, t)
+
+pub call_sizes : (s : Listing) (w : Way) (k : ℕ) (X : List ℤ) {o : Refusal} → sizes s (length X) ≡ Err o → returned (Err o) 0 X ≡ call_list s (of_way w k) X
+call_sizes s w k X e = call_fails s X w k (sweep_sizes s k X e)

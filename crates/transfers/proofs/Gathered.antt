@@ -1,15 +1,15 @@
 -- Records and the numbers that they stand as.
 use mathlib.Core.Path.{◌≡◌, refl, sym, ap, ◌∙◌}
 use mathlib.Core.List.{List, [], ◌∷◌, ◌++◌}
-use Prim.Native.Nat.{ℕ, suc, ◌+◌, ◌<◌, ◌≤◌, min}
+use Prim.Native.Nat.{ℕ, suc, ◌+◌, ◌<◌}
 use native.Mathlib.Omega.{arith}
 use native.Mathlib.Numerals.{add-one}
 use lib.IntN.{ℤ, pos}
-use lib.ListN.{length, get_or, set, take, drop, replicate, length-replicate}
+use lib.ListN.{length, get_or, set, take, drop}
 use lib.Seq.{take-suc, drop-cons, append_snoc, set_at, length-take-le, take_at, take_all}
 use Rattle.transfers.specs.declared.Transfer.{Transfer}
 use Rattle.transfers.specs.Listing.{nth, transfer_of, transfers_of}
-use Rattle.transfers.specs.Code.{numbers_of, records_of, room, gathered}
+use Rattle.transfers.specs.Code.{numbers_of, records_of}
 
 -- what `nth` finds past the end
 abbrev pub none : Transfer
@@ -29,11 +29,6 @@ records_more : (ys : List Transfer) (k : ℕ) → k < length ys → records_of (
 unfolding records_of
 records_more ys k h = ap records_of (take-suc ys k none h) ∙ records_append (take k ys) (nth ys k ∷ [])
 
--- no record yet
-pub none_put : (ys : List Transfer) (zs : List (List ℤ)) → zs ≡ records_of (take 0 ys) ++ drop 0 zs
-unfolding records_of
-none_put ys zs = refl
-
 -- the first k records stand at the beginning, and the next is put
 pub put_more : (ys : List Transfer) (zs l : List (List ℤ)) (k : ℕ) → k < length ys → k < length zs → l ≡ records_of (take k ys) ++ drop k zs
     → set l k (numbers_of (nth ys k)) ≡ records_of (take (k + 1) ys) ++ drop (k + 1) zs
@@ -45,25 +40,14 @@ put_more ys zs l k h g e =
     let p : set l k r ≡ front ++ r ∷ drop (suc k) zs = ap (λ m. set m k r) s ∙ set_at front (get_or zs k []) (drop (suc k) zs) r k f in
     rw (add-one k) (p ∙ sym (append_snoc front r (drop (suc k) zs)) ∙ ap (λ m. m ++ drop (suc k) zs) (sym (records_more ys k h)))
 
-pub length_room : length room ≡ 1_024
-unfolding room
-length_room = length-replicate 1_024 (replicate 4 (pos 0))
-
--- what is gathered from a list, of which no more than 1,024 records are read
-pub gathered_is : (ys : List Transfer) (zs : List (List ℤ)) (m : ℕ) → m ≡ min 1_024 (length ys) → zs ≡ records_of (take m ys) ++ drop m room → zs ≡ gathered ys
-unfolding gathered
-gathered_is ys zs m e f = f ∙ ap (λ n. records_of (take n ys) ++ drop n room) e
-
 -- ---- the list again, from what was gathered
 transfers_records : (ts : List Transfer) → transfers_of (records_of ts) ≡ ts
 unfolding transfers_of transfer_of records_of
 transfers_records [] = refl
 transfers_records (t ∷ ts) = ap (λ l. t ∷ l) (transfers_records ts)
 
-pub list_again : (ts : List Transfer) (count : ℕ) (values : List (List ℤ)) → count ≡ length ts → values ≡ gathered ts → count ≤ 1_024 → transfers_of (take count values) ≡ ts
-unfolding gathered
-list_again ts count values e f h =
-    let m : min 1_024 (length ts) ≡ length ts = omega (arith, e, h) in
-    let g : values ≡ records_of ts ++ drop (length ts) room = f ∙ ap (λ k. records_of (take k ts) ++ drop k room) m ∙ ap (λ l. records_of l ++ drop (length ts) room) (take_all (length ts) ts (omega arith)) in
-    ap (λ k. transfers_of (take k values)) e ∙ ap (λ l. transfers_of (take (length ts) l)) g
-    ∙ ap transfers_of (take_at (records_of ts) (drop (length ts) room) (length ts) (length_records ts)) ∙ transfers_records ts
+-- the numbers of a list, at the beginning of others
+pub list_again : (ts : List Transfer) (rest values : List (List ℤ)) → values ≡ records_of (take (length ts) ts) ++ rest → transfers_of (take (length ts) values) ≡ ts
+list_again ts rest values e =
+    let f : values ≡ records_of ts ++ rest = e ∙ ap (λ l. records_of l ++ rest) (take_all (length ts) ts (omega arith)) in
+    ap (λ l. transfers_of (take (length ts) l)) f ∙ ap transfers_of (take_at (records_of ts) rest (length ts) (length_records ts)) ∙ transfers_records ts

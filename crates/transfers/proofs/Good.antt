@@ -1,5 +1,5 @@
 -- One step of the test of all records in one go; it passes exactly if their tests do, one after the other.
-use mathlib.Core.Path.{◌≡◌, refl}
+use mathlib.Core.Path.{◌≡◌, refl, sym}
 use mathlib.Core.Bool.{true, false}
 use mathlib.Core.List.{List}
 use Prim.Native.Nat.{ℕ, zero, suc, ◌+◌, ◌-◌, ◌≤◌, ◌<◌}
@@ -10,8 +10,8 @@ use lib.Dec.{leb}
 use lib.ListN.{length}
 use Rattle.interval.specs.Interval.{acceptable}
 use Rattle.interval.proofs.Range.{and_both}
-use Rattle.inputs.specs.declared.Test.TheVariants.{Pass}
-use Rattle.inputs.specs.Tests.{both}
+use Rattle.std.specs.Prelude.{Ok, Err, IsErr}
+use Rattle.inputs.specs.Tests.{Test, both}
 use Rattle.transfers.specs.declared.Transfer.{Transfer}
 use Rattle.transfers.specs.Listing.{nth, share, both_components, follows, entries, place_of}
 use Rattle.transfers.specs.Code.{all_good, judgement}
@@ -113,7 +113,7 @@ module _ (n : ℕ) (ts : List Transfer) where
       })
 
   -- ---- in one go, and one test after the other
-  pub good_passes : all_good n ts (length ts) 0 0 ≡ true → judgement n ts ≡ Pass
+  pub good_passes : all_good n ts (length ts) 0 0 ≡ true → judgement n ts ≡ Ok tt
   unfolding judgement entries both
   good_passes e =
       let g = each (length ts) 0 0 e in
@@ -125,7 +125,7 @@ module _ (n : ℕ) (ts : List Transfer) where
           let f : 1 + j ≡ j + 1 = omega arith in
           rw (e, f) (rises_follows n (nth ts j) (nth ts (j + 1)) (rw (zero-add j) at (g.components j (omega arith))) (rw (zero-add (j + 1)) at (g.components (j + 1) (omega arith))) (rw (zero-add j) at (g.rises j (omega arith))))
 
-  pub passes_good : judgement n ts ≡ Pass → all_good n ts (length ts) 0 0 ≡ true
+  pub passes_good : judgement n ts ≡ Ok tt → all_good n ts (length ts) 0 0 ≡ true
   passes_good e =
       let p = passed n ts e in
       let v = tried_each _ _ (length ts) 0 p.components in
@@ -139,3 +139,8 @@ module _ (n : ℕ) (ts : List Transfer) where
             let g : j + 1 - 1 ≡ j = omega arith in
             rw (zero-add j) (place_rises n (nth ts j) (nth ts (j + 1)) (rw (zero-add j) at (v j (omega arith))) (rw (zero-add (j + 1)) at (v (j + 1) (omega arith))) (rw (f, g) at (tried_each _ _ (length ts - 1) 1 p.order j (omega arith))));
       }
+
+  -- if one of them is not good, a test refuses it
+  pub one_refuses : {r : Test} → r ≡ judgement n ts → (all_good n ts (length ts) 0 0 ≡ true → ⊥) → IsErr r
+  one_refuses {r = Ok _} e d = absurd (d (passes_good (sym e)))
+  one_refuses {r = Err o} e d = refl

@@ -14,6 +14,5 @@ pub mod Short
 pub mod Rounding
 pub mod Rows
 pub mod Terms
-pub mod Passes
 pub mod Call
 pub mod Gathered

@@ -10,7 +10,7 @@ use lib.IntN.{ℤ, pos}
 use lib.ListN.{length, replicate, length-replicate}
 use Rattle.interval.specs.Interval.{zero as zeroInterval}
 use Rattle.interval.proofs.Range.{same_ends}
-use Rattle.inputs.specs.declared.Test.TheVariants.{Pass}
+use Rattle.std.specs.Prelude.{Ok}
 use Rattle.inputs.specs.Place.{at, put}
 use Rattle.inputs.proofs.Tests.{both_pass}
 use Rattle.inputs.proofs.Place.{length_put, at_put_same, at_put_other}
@@ -56,7 +56,7 @@ module _ (n : ℕ) (ts : List Transfer) where
       ∙ same_ends _ _ (noughts (2 * (n * n)) (2 * p)) (noughts (2 * (n * n)) (2 * p + 1))
 
   -- ---- a list that passes 11 and 12
-  module _ (passes : entries n ts ≡ Pass) where
+  module _ (passes : entries n ts ≡ Ok tt) where
     pub components : (k : ℕ) → k < length ts → both_components n (nth ts k) ≡ true
     unfolding entries
     components k h = rw (zero-add k) at (tried_each _ _ (length ts) 0 (both_pass _ _ passes).0 k h)

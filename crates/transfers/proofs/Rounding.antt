@@ -1,6 +1,6 @@
 -- Rounding a number that is not below 0, and of two words of which the high one is 0.
 use mathlib.Core.Path.{◌≡◌, sym, ap, ◌∙◌}
-use Prim.Native.Nat.{ℕ, ◌+◌, ◌/◌, ◌%◌, ◌≤◌, ◌<◌}
+use Prim.Native.Nat.{ℕ, ◌+◌, ◌/◌, ◌%◌, ◌≤◌, min}
 use native.Mathlib.Omega.{arith}
 use lib.IntN.{ℤ, pos, ◌*ℤ◌, ◌+ℤ◌}
 use mir.Syntax.{w64}
@@ -27,19 +27,10 @@ module _ (p : ℕ) (h : p ≤ 18446744073709551615) where
   unfolding floor_div scale
   ceil_is = ceil_floor (pos p) (pos 1000000) scale_above
 
-  pub ceil_even : p % 1000000 ≤ 0 → to_z w64 (p / 1000000) ≡ ceil_div (pos p) scale
-  ceil_even r = let e : p / 1000000 ≡ (p + 999999) / 1000000 = omega (arith, r) in quotient ∙ ap pos e ∙ ceil_is
-
-  more_fits : SFits w64 (pos (p / 1000000 + 1))
-  more_fits = record { sfits = omega arith }
-
-  pub more_safe : SFits w64 (to_z w64 (p / 1000000) +ℤ pos 1)
-  more_safe = rw quotient more_fits
-
-  pub ceil_more : 0 < p % 1000000 → to_z w64 (of_z w64 (to_z w64 (p / 1000000) +ℤ pos 1)) ≡ ceil_div (pos p) scale
-  ceil_more r =
-      let e : p / 1000000 + 1 ≡ (p + 999999) / 1000000 = omega (arith, r) in
-      ap (λ z. to_z w64 (of_z w64 (z +ℤ pos 1))) quotient ∙ to_z-of_z w64 (pos (p / 1000000 + 1)) more_fits ∙ ap pos e ∙ ceil_is
+  pub ceil_read : (q : ℕ) → q ≡ p / 1000000 + min 1 (p % 1000000) → to_z w64 q ≡ ceil_div (pos p) scale
+  ceil_read q e =
+      let f : q ≡ (p + 999999) / 1000000 = omega arith in
+      to_z_pos w64 q (omega arith) ∙ ap pos f ∙ ceil_is
 
 -- two words of which the high one is 0
 pub low_alone : (w : Wide) → SFits w64 w.high → of_z w64 w.high ≡ 0 → held w ≡ pos w.low

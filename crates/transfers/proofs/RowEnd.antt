@@ -90,15 +90,6 @@ module _ (n : ℕ) (ts : List Transfer) (i from : ℕ) where
     pub each : passed ≤ n → (j : ℕ) → from ≤ j → j < k → InRow n i h (nth ts j)
     pub good : passed ≤ n → InRange h → all_good n ts (length ts - k) k (i * n + passed) ≡ true → all_good n ts (length ts - from) from (i * n) ≡ true
 
-  pub none_yet : (h : Interval) → SoFar from 0 h
-  none_yet h =
-      record {
-        forward = omega arith;
-        few = omega arith;
-        each = λ _ j a b. absurd (omega arith);
-        good = λ _ _ e. let z : i * n + 0 ≡ i * n = omega arith in rw z at e;
-      }
-
   module _ {k passed : ℕ} {h : Interval} (s : SoFar k passed h) where
     module _ (a : i < n) (b : k < length ts) (e : (nth ts k).receiver ≡ pos (i + 1)) (l : Later passed (nth ts k).giver) (o : (nth ts k).lo ≤ℤ (nth ts k).hi) where
       abbrev t : Transfer
@@ -206,9 +197,6 @@ module _ (n : ℕ) (ts : List Transfer) (few : n ≤ 32) where
   module _ (i from : ℕ) (held : Interval) where
     pub record Kept (k passed : ℕ) (h : Interval) : Type 0 where
       pub is : InRange held → all_good n ts (length ts - from) from (i * n) ≡ true → (passed ≤ n) × InRange h × (all_good n ts (length ts - k) k (i * n + passed) ≡ true)
-
-    pub kept_start : Kept from 0 held
-    kept_start = record { is = λ r e. let z : i * n + 0 ≡ i * n = omega arith in (omega arith, r, rw z e) }
 
     module _ {k passed : ℕ} {h : Interval} (w : Kept k passed h) where
       -- at the end of the list, or before a record of another row

@@ -12,11 +12,11 @@ use lib.ListN.{length}
 use Rattle.integer.specs.Extremes.{minimum, maximum}
 use Rattle.integer.proofs.Linear.{linear, over}
 use Rattle.interval.specs.declared.Interval.{Interval}
-use Rattle.interval.specs.Interval.{zero as zeroInterval, exact_sum, exact_product}
-use Rattle.inputs.specs.declared.Test.TheVariants.{Pass}
+use Rattle.interval.specs.Interval.{zero as zeroInterval, scale, rounded, exact_sum, exact_product}
+use Rattle.std.specs.Prelude.{Ok}
 use Rattle.inputs.specs.Place.{at}
 use Rattle.inputs.proofs.Tests.{both_pass, rows_apart}
-use Rattle.rows.specs.Sum.{exactly}
+use Rattle.rows.specs.Sum.{exactly, once}
 use Rattle.rows.proofs.Exact.{sum_assoc, sum_nought}
 use Rattle.transfers.specs.declared.Transfer.{Transfer}
 use Rattle.transfers.specs.Listing.{nth, share, entries, place_of, square}
@@ -43,13 +43,23 @@ module _ (ts : List Transfer) (x : List ℤ) (e k : ℕ) (acc : Interval) where
   unfolding summed
   summed_go h = let f : e - k ≡ suc (e - (k + 1)) = omega arith in rw f
 
--- two records more, whose products are added first
-pub summed_two : (ts : List Transfer) (x : List ℤ) (e k : ℕ) (acc : Interval) {j : ℕ} {v : Interval} → v ≡ exact_sum acc (two_terms ts x j) → j ≡ k → k + 1 + 1 ≤ e
-    → summed ts x (e - k) k acc ≡ summed ts x (e - (k + 2)) (k + 2) v
-unfolding two_terms
-summed_two ts x e k acc f g h =
-    let z : k + 1 + 1 ≡ k + 2 = omega arith in
-    summed_go ts x e k acc (omega arith) ∙ summed_go ts x e (k + 1) _ (omega arith) ∙ rw (z, f, g) (ap (summed ts x (e - (k + 2)) (k + 2)) (sum_assoc _ _ _))
+-- ---- a row's sum, r, of which j pairs are added
+module _ (ts : List Transfer) (x : List ℤ) (from past j : ℕ) {r : Interval} (acc : Interval) (e : r ≡ summed ts x (past - (from + 2 * j)) (from + 2 * j) acc) where
+  -- a pair more, whose products are added first
+  pub summed_pair : {v : Interval} → v ≡ exact_sum acc (two_terms ts x (from + 2 * j)) → from + 2 * j + 1 + 1 ≤ past → r ≡ summed ts x (past - (from + 2 * (j + 1))) (from + 2 * (j + 1)) v
+  unfolding two_terms
+  summed_pair f h =
+      let k = from + 2 * j in
+      let z : from + 2 * (j + 1) ≡ k + 1 + 1 = omega arith in
+      e ∙ summed_go ts x past k acc (omega arith) ∙ summed_go ts x past (k + 1) _ (omega arith) ∙ rw (z, f) (ap (summed ts x (past - (k + 1 + 1)) (k + 1 + 1)) (sum_assoc _ _ _))
+
+  -- the last record
+  pub summed_last : {v : Interval} (k : ℕ) → v ≡ exact_sum acc (term ts x k) → k ≡ from + 2 * j → k + 1 ≡ past → v ≡ r
+  summed_last k f q l = f ∙ sym (rw (← q) at e ∙ summed_go ts x past k acc (omega arith) ∙ summed_end ts x past (k + 1) _ (omega arith))
+
+  -- no record is left
+  pub summed_all : past ≤ from + 2 * j → acc ≡ r
+  summed_all h = sym (e ∙ summed_end ts x past (from + 2 * j) acc h)
 
 module _ (n : ℕ) (ts : List Transfer) (ends : List ℕ) {shares : Interval} (range : InRange shares) (w : Rows n ts ends shares) where
   abbrev P : ℕ → ℕ
@@ -66,10 +76,10 @@ module _ (n : ℕ) (ts : List Transfer) (ends : List ℕ) {shares : Interval} (r
           good_end n ts (length ts) (end ends i) (i * n) (omega (arith, l))
       go (suc d) i e = (w.row i (omega arith)).good range (go d (i + 1) (omega arith))
 
-  pub rows_judged : judgement n ts ≡ Pass
+  pub rows_judged : judgement n ts ≡ Ok tt
   rows_judged = good_passes n ts (rw (w.first, sub-zero (length ts), zero-mul n) at (rows_good 0 (omega arith)))
 
-  rows_entries : entries n ts ≡ Pass
+  rows_entries : entries n ts ≡ Ok tt
   unfolding judgement
   rows_entries = (both_pass _ _ rows_judged).0
 
@@ -229,7 +239,7 @@ module _ (n : ℕ) (ts : List Transfer) (ends : List ℕ) {shares : Interval} (r
     sums (suc d) c e k acc s = sums_go d c k acc (sums d (c + 1) (omega arith)) (column c k (omega arith) s)
 
     -- the sum over the row of the square
-    pub row_listed : exactly (square n ts) (i * n) x 0 n 0 zeroInterval ≡ row_sum ts ends x i
+    row_listed : exactly (square n ts) (i * n) x 0 n 0 zeroInterval ≡ row_sum ts ends x i
     unfolding row_sum
     row_listed =
         sums n 0 (zero-add n) first zeroInterval
@@ -238,3 +248,7 @@ module _ (n : ℕ) (ts : List Transfer) (ends : List ℕ) {shares : Interval} (r
           left = λ j a. let b = before i (omega arith) j a in omega (arith, b);
           right = λ j a b. let l = later i (omega arith) j a b in omega (arith, l);
         }
+
+    pub row_once : rounded scale (row_sum ts ends x i) ≡ once (square n ts) (i * n) x 0 n
+    unfolding once
+    row_once = ap (rounded scale) (sym row_listed)

@@ -1,34 +1,19 @@
 -- Tests 1 and 2 of a list, a right side and a box.
 use mathlib.Core.Path.{◌≡◌, sym}
-use mathlib.Core.List.{[], ◌∷◌}
 use Prim.Native.Nat.{ℕ, ◌*◌, ◌≤◌, ◌<◌}
-use borrow.Author.Tests.{le-leb, lt-leb, leb-true, eqb-true}
+use borrow.Author.Tests.{lt-leb, leb-true, eqb-true}
 use lib.ListN.{length}
-use Rattle.outcome.specs.declared.Outcome.{Outcome}
-use Rattle.outcome.specs.declared.Outcome.TheVariants as outcome
-use Rattle.inputs.specs.declared.Test.TheVariants.{Pass, Fail}
-use Rattle.inputs.specs.Tests.{both, need, sized, slice, lengths}
+use Rattle.outcome.specs.declared.Refusal.{Refusal}
+use Rattle.outcome.specs.declared.Refusal.TheVariants as refusal
+use Rattle.std.specs.Prelude.{Ok, Err}
+use Rattle.inputs.specs.Tests.{both, need, sized, lengths}
 use Rattle.inputs.proofs.Tests.{both_pass, need_pass, sized_pass}
 use Rattle.transfers.specs.Listing.{Listing, sizes}
-use Rattle.transfers.specs.Code.{Overlong}
 
 module _ (s : Listing) (l : ℕ) where
-  pub sizes_size : {o : Outcome} → sized s.size ≡ Fail o → Fail o ≡ sizes s l
-  unfolding sizes both
-  sizes_size e = rw e
-
-  module _ (e : sized s.size ≡ Pass) where
-    pub sizes_long : 1024 < length s.transfers → Fail (outcome.Length 1) ≡ sizes s l
-    unfolding sizes both need
-    sizes_long h = rw (e, lt-leb (length s.transfers) 1024 h)
-
-    pub sizes_lengths : length s.transfers ≤ 1024 → lengths (slice 2 (length s.right) (2 * s.size) ∷ slice 3 l (2 * s.size) ∷ []) ≡ sizes s l
-    unfolding sizes both need
-    sizes_lengths h = rw (e, le-leb (length s.transfers) 1024 h)
-
-  pub sizes_overlong : {o : Outcome} → Overlong s.size o → 1024 < length s.transfers → sizes s l ≡ Fail o
+  pub sizes_overlong : {o : Refusal} → Err o ≡ both (sized s.size) (Err (refusal.Length 1)) → 1024 < length s.transfers → sizes s l ≡ Err o
   unfolding sizes both need
-  sizes_overlong f h = rw (lt-leb (length s.transfers) 1024 h) (sym f.is)
+  sizes_overlong e h = rw (lt-leb (length s.transfers) 1024 h) (sym e)
 
   -- what they say when they pass
   pub record Fitting : Type 0 where
@@ -38,7 +23,7 @@ module _ (s : Listing) (l : ℕ) where
     pub right : length s.right ≡ 2 * s.size
     pub box : l ≡ 2 * s.size
 
-  pub fitting : sizes s l ≡ Pass → Fitting
+  pub fitting : sizes s l ≡ Ok tt → Fitting
   unfolding sizes lengths
   fitting e =
       let f = both_pass _ _ e in
@@ -49,7 +34,7 @@ module _ (s : Listing) (l : ℕ) where
       record {
         some = n.0;
         few = n.1;
-        short = leb-true (length s.transfers) 1024 (need_pass _ (outcome.Length 1) g.0);
-        right = eqb-true _ _ (need_pass _ (outcome.Length 2) h.0);
-        box = eqb-true _ _ (need_pass _ (outcome.Length 3) k.0);
+        short = leb-true (length s.transfers) 1024 (need_pass _ (refusal.Length 1) g.0);
+        right = eqb-true _ _ (need_pass _ (refusal.Length 2) h.0);
+        box = eqb-true _ _ (need_pass _ (refusal.Length 3) k.0);
       }

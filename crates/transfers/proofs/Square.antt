@@ -11,7 +11,7 @@ use lib.ListN.{length, take, replicate, get_or, length-replicate, get_or-replica
 use lib.Seq.{set-append_left}
 use Rattle.interval.specs.declared.Interval.{Interval}
 use Rattle.interval.specs.Interval.{acceptable}
-use Rattle.inputs.specs.declared.Test.TheVariants.{Pass}
+use Rattle.std.specs.Prelude.{Ok}
 use Rattle.inputs.specs.Place.{put}
 use Rattle.inputs.specs.Tests.{both, need, lengths, sizes, proper, Part, all_proper}
 use Rattle.inputs.specs.System.{slices, parts, tests}
@@ -115,32 +115,32 @@ module _ (n : ℕ) (ts : List Transfer) where
       ap (filled n ts (length ts) 0) (sym (take-append-drop k z) ∙ ap (λ l. l ++ drop k z) (take_noughts k m h))
       ∙ filled_before (length ts) 0 (replicate k (pos 0)) (drop k z) (all_fit p) (length-replicate k (pos 0))
 
-sound_proper : (t : List ℤ) (d from : ℕ) → Sound t → proper t d 0 from ≡ Pass
+sound_proper : (t : List ℤ) (d from : ℕ) → Sound t → proper t d 0 from ≡ Ok tt
 sound_proper t d from s = proper_all t d 0 from (λ k h. s.each (0 + k))
 
 -- ---- the tests of the square
 module _ (s : Listing) (l : ℕ) (f : Fitting s l) where
-  pub square_sizes : sizes s.size (slices (squared s) l) ≡ Pass
+  pub square_sizes : sizes s.size (slices (squared s) l) ≡ Ok tt
   unfolding sizes lengths both need
   square_sizes =
       rw (← sized_yes s.size f.some f.few, eq-eqb _ _ (length_square s.size s.transfers), eq-eqb _ _ f.right, eq-eqb _ _ f.box)
 
-  module _ (p : Passed s.size s.transfers) (from : ℕ) (r : proper s.right s.size 0 from ≡ Pass) where
-    square_parts : (ps : List Part) → ((q : ℕ) → all_proper q ps ≡ Pass) → all_proper 0 (parts (squared s) ps) ≡ Pass
+  module _ (p : Passed s.size s.transfers) (from : ℕ) (r : proper s.right s.size 0 from ≡ Ok tt) where
+    square_parts : (ps : List Part) → ((q : ℕ) → all_proper q ps ≡ Ok tt) → all_proper 0 (parts (squared s) ps) ≡ Ok tt
     unfolding all_proper both
     square_parts ps h =
         rw (sound_proper (square s.size s.transfers) (s.size * s.size) 0 (square_sound s.size s.transfers p), sound_proper s.right s.size (0 + s.size * s.size) (proper_sound s.right s.size from f.right r))
         (h _)
 
-    pub square_tests : tests (squared s) l ≡ Pass
+    pub square_tests : tests (squared s) l ≡ Ok tt
     unfolding tests both all_proper
     square_tests = rw (square_sizes, square_parts [] (λ q. refl))
 
-pub square_sweep_tests : (s : Listing) (k : ℕ) (X : List ℤ) → Fitting s (length X) → Passed s.size s.transfers → (from : ℕ) → proper s.right s.size 0 from ≡ Pass
-    → sweep.allowance k ≡ Pass → (at : ℕ) → proper X s.size 0 at ≡ Pass → sweep.tests (squared s) k X ≡ Pass
+pub square_sweep_tests : (s : Listing) (k : ℕ) (X : List ℤ) → Fitting s (length X) → Passed s.size s.transfers → (from : ℕ) → proper s.right s.size 0 from ≡ Ok tt
+    → sweep.allowance k ≡ Ok tt → (at : ℕ) → proper X s.size 0 at ≡ Ok tt → sweep.tests (squared s) k X ≡ Ok tt
 unfolding sweep.tests both all_proper
 square_sweep_tests s k X f p from r a at x =
     rw (square_sizes s (length X) f, a) (square_parts s (length X) f p from r (record { numbers = X; count = s.size } ∷ []) box)
   where
-    box : (q : ℕ) → all_proper q (record { numbers = X; count = s.size } ∷ []) ≡ Pass
+    box : (q : ℕ) → all_proper q (record { numbers = X; count = s.size } ∷ []) ≡ Ok tt
     box q = rw (sound_proper X s.size q (proper_sound X s.size at f.box x))

@@ -3,16 +3,16 @@ use mathlib.Core.Path.{◌≡◌, refl}
 use mathlib.Core.Bool.{Bool, true, false}
 use Prim.Native.Nat.{ℕ, zero, suc, ◌+◌, ◌-◌, ◌≤◌, ◌<◌}
 use native.Mathlib.Omega.{arith}
-use Rattle.outcome.specs.declared.Outcome.{Outcome}
-use Rattle.inputs.specs.declared.Test.TheVariants.{Pass, Fail}
+use Rattle.outcome.specs.declared.Refusal.{Refusal}
+use Rattle.std.specs.Prelude.{Ok, Err}
 use Rattle.inputs.specs.Tests.{both, need}
 use Rattle.inputs.proofs.Tests.{both_pass, need_pass}
 use Rattle.transfers.specs.Listing.{tried}
 
-module _ (p : ℕ → Bool) (o : ℕ → Outcome) where
+module _ (p : ℕ → Bool) (o : ℕ → Refusal) where
   -- the records left are count − k
   module _ (count k : ℕ) where
-    pub tried_end : count ≤ k → tried p o (count - k) k ≡ Pass
+    pub tried_end : count ≤ k → tried p o (count - k) k ≡ Ok tt
     unfolding tried
     tried_end h = let e : count - k ≡ 0 = omega arith in rw e
 
@@ -20,17 +20,17 @@ module _ (p : ℕ → Bool) (o : ℕ → Outcome) where
     unfolding tried need both
     tried_go h e = let f : count - k ≡ suc (count - (k + 1)) = omega arith in rw (f, e)
 
-    pub tried_out : k < count → p k ≡ false → tried p o (count - k) k ≡ Fail (o k)
+    pub tried_out : k < count → p k ≡ false → tried p o (count - k) k ≡ Err (o k)
     unfolding tried need both
     tried_out h e = let f : count - k ≡ suc (count - (k + 1)) = omega arith in rw (f, e)
 
-  pub tried_each : (d k : ℕ) → tried p o d k ≡ Pass → (j : ℕ) → j < d → p (k + j) ≡ true
+  pub tried_each : (d k : ℕ) → tried p o d k ≡ Ok tt → (j : ℕ) → j < d → p (k + j) ≡ true
   unfolding tried
   tried_each zero k e j h = absurd (omega arith)
   tried_each (suc d) k e zero h = let f : k + 0 ≡ k = omega arith in rw f (need_pass _ (o k) (both_pass _ (tried p o d (k + 1)) e).0)
   tried_each (suc d) k e (suc j) h = let f : k + suc j ≡ k + 1 + j = omega arith in rw f (tried_each d (k + 1) (both_pass _ (tried p o d (k + 1)) e).1 j (omega arith))
 
-  pub tried_all : (d k : ℕ) → ((j : ℕ) → j < d → p (k + j) ≡ true) → tried p o d k ≡ Pass
+  pub tried_all : (d k : ℕ) → ((j : ℕ) → j < d → p (k + j) ≡ true) → tried p o d k ≡ Ok tt
   unfolding tried need both
   tried_all zero k h = refl
   tried_all (suc d) k h =

@@ -1,8 +1,7 @@
 -- Document 02, A7: 'Elimination and sweeps from the list give the same outcome as from the square it stands for.'
 use Rattle.std.specs.Prelude.{List, [], ◌∷◌, ℕ, ℤ, length}
 use Rattle.outcome.specs.Run.{Run, Returned, written, ended}
-use Rattle.inputs.specs.declared.Test.{Test}
-use Rattle.inputs.specs.Tests.{both, tested}
+use Rattle.inputs.specs.Tests.{Test, both, tested}
 use Rattle.rows.specs.Sum.{once}
 use Rattle.forward.specs.Pivot.{lowest_row}
 use Rattle.elimination.specs.Call.{run_B}

@@ -1,15 +1,13 @@
 -- Document 02, A7: 'Transfers arrive as a lent list of records, each with receiving vat, giving vat, lower and upper share, at most
 -- 1,024 of them.' The receiving vat is the row, the giving vat the column; both count from 1.
-use Rattle.std.specs.Prelude.{Bool, ◌&&◌, ◌||◌, List, [], ◌∷◌, ℕ, zero, suc, ◌+◌, ◌-◌, ◌*◌, leb, ℤ, pos, nat_abs, length, get_or, replicate}
+use Rattle.std.specs.Prelude.{Bool, ◌&&◌, ◌||◌, List, [], ◌∷◌, ℕ, zero, suc, ◌+◌, ◌-◌, ◌*◌, leb, ℤ, pos, nat_abs, length, get_or, replicate, Ok}
 use Rattle.std.specs.Int.Signed.{le_z, lt_z}
-use Rattle.outcome.specs.declared.Outcome.{Outcome}
-use Rattle.outcome.specs.declared.Outcome.TheVariants as outcome
+use Rattle.outcome.specs.declared.Refusal.{Refusal}
+use Rattle.outcome.specs.declared.Refusal.TheVariants as refusal
 use Rattle.interval.specs.declared.Interval.{Interval}
 use Rattle.interval.specs.Interval.{ends, acceptable}
-use Rattle.inputs.specs.declared.Test.{Test}
-use Rattle.inputs.specs.declared.Test.TheVariants.{Pass}
+use Rattle.inputs.specs.Tests.{Test, both, need, sized, slice, lengths, Part, all_proper}
 use Rattle.inputs.specs.Place.{put, cell}
-use Rattle.inputs.specs.Tests.{both, need, sized, slice, lengths, Part, all_proper}
 use Rattle.inputs.specs.System.{System, system}
 use Rattle.transfers.specs.declared.Transfer.{Transfer}
 
@@ -34,12 +32,12 @@ share t = ends t.lo t.hi
 unfoldable pub sizes : Listing → (boxLength : ℕ) → Test
 sizes s l =
     both (sized s.size)
-    (both (need (leb (length s.transfers) 1_024) (outcome.Length 1))
+    (both (need (leb (length s.transfers) 1_024) (refusal.Length 1))
     (lengths (slice 2 (length s.right) (2 * s.size) ∷ slice 3 l (2 * s.size) ∷ [])))
 
 -- a test p of k, k + 1, .., d of them; it fails with o at the first that does not meet it
-unfoldable pub tried : (ℕ → Bool) → (ℕ → Outcome) → (d k : ℕ) → Test
-tried p o zero k = Pass
+unfoldable pub tried : (ℕ → Bool) → (ℕ → Refusal) → (d k : ℕ) → Test
+tried p o zero k = Ok tt
 tried p o (suc d) k = both (need (p k) (o k)) (tried p o d (k + 1))
 
 -- 11: 'a vat number outside 1 to n'
@@ -50,14 +48,14 @@ unfoldable pub both_components : ℕ → Transfer → Bool
 both_components n t = is_component n t.receiver && is_component n t.giver
 
 abbrev pub known : (n : ℕ) → List Transfer → (d k : ℕ) → Test
-known n ts = tried (λ k. both_components n (nth ts k)) outcome.OutOfMatrix
+known n ts = tried (λ k. both_components n (nth ts k)) refusal.OutOfMatrix
 
 -- 12: 'a record not after its predecessor by receiving and then giving vat'
 unfoldable pub follows : Transfer → Transfer → Bool
 follows s t = lt_z s.receiver t.receiver || (le_z s.receiver t.receiver && lt_z s.giver t.giver)
 
 abbrev pub ordered : List Transfer → (d k : ℕ) → Test
-ordered ts = tried (λ k. follows (nth ts (k - 1)) (nth ts k)) outcome.OutOfOrder
+ordered ts = tried (λ k. follows (nth ts (k - 1)) (nth ts k)) refusal.OutOfOrder
 
 -- '11 over all records first'
 unfoldable pub entries : (n : ℕ) → List Transfer → Test
@@ -65,7 +63,7 @@ entries n ts = both (known n ts (length ts) 0) (ordered ts (length ts - 1) 1)
 
 -- 3: 'a record's 3 has its place in the list'
 abbrev pub shares : List Transfer → (d k : ℕ) → Test
-shares ts = tried (λ k. acceptable (share (nth ts k))) outcome.Ends
+shares ts = tried (λ k. acceptable (share (nth ts k))) refusal.Ends
 
 -- 'and the right side counts on after the last record', and what comes after it
 unfoldable pub intervals : Listing → List Part → Test

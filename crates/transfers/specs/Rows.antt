@@ -1,19 +1,16 @@
 -- The rows of a list, and a row's sum over its records alone.
-use Rattle.std.specs.Prelude.{◌≡◌, Bool, true, List, ℕ, zero, suc, ◌+◌, ◌-◌, ◌*◌, ◌≤◌, ◌<◌, ℤ, pos, neg_ℤ, nat_abs, length, get_or, ◌≤ℤ◌}
+use Rattle.std.specs.Prelude.{◌≡◌, ◌≢◌, Option, Some, None, Result, Ok, Err, Bool, true, List, ℕ, zero, suc, ◌+◌, ◌-◌, ◌*◌, ◌≤◌, ◌<◌, ℤ, pos, neg_ℤ, nat_abs, length, get_or, ◌≤ℤ◌}
+use Rattle.outcome.specs.declared.Refusal.{Refusal}
 use Rattle.integer.specs.Extremes.{minimum, maximum}
 use Rattle.interval.specs.declared.Interval.{Interval}
 use Rattle.interval.specs.Interval as interval
-use Rattle.inputs.specs.declared.Test.TheVariants.{Fail}
 use Rattle.inputs.specs.Place.{at}
 use Rattle.rows.specs.Word.{NoneBelow}
 use Rattle.sweep.specs.Code.{Ready}
 use Rattle.transfers.specs.declared.Transfer.{Transfer}
 use Rattle.transfers.specs.declared.internal.found.Row.{Row}
-use Rattle.transfers.specs.declared.internal.found.Found.{Found}
-use Rattle.transfers.specs.declared.internal.listed.Known.{Known}
-use Rattle.transfers.specs.declared.internal.found.Tried.{Tried}
-use Rattle.transfers.specs.declared.internal.found.Tried.TheVariants as tried
-use Rattle.transfers.specs.Listing.{nth, share, is_component, both_components, square, transfers_of}
+use Rattle.transfers.specs.Listing.{Listing, nth, share, both_components, square}
+use Rattle.transfers.specs.Call.{sweep_tests}
 use Rattle.transfers.specs.Code.{all_good, judgement}
 
 -- ---- the hull of shares: what holds them all
@@ -55,12 +52,17 @@ pub record RowOf (n : ℕ) (ts : List Transfer) (i : ℕ) (h : Interval) (k e : 
   pub each : (j : ℕ) → k ≤ j → j < e → InRow n i h (nth ts j)
   pub good : InRange h → all_good n ts (length ts - e) e ((i + 1) * n) ≡ true → all_good n ts (length ts - k) k (i * n) ≡ true
 
--- an end that is not past the list is that of the row, if the row's columns are in the square; and if the records from k on are good, then so are end, columns and shares, and the records from the end on
+-- where the row ends, if its columns are in the square; and if the records from k on are good, then so are columns and shares, and the records from the end on
 pub record RowEnd (n : ℕ) (ts : List Transfer) (i : ℕ) (h : Interval) (k : ℕ) (r : Row) : Type 0 where
   pub held : Holds r.hull h
-  pub is : r.end ≤ length ts → r.columns ≤ n → RowOf n ts i r.hull k r.end
+  pub is : r.columns ≤ n → RowOf n ts i r.hull k r.end
   pub passes : InRange h → all_good n ts (length ts - k) k (i * n) ≡ true
-      → (r.end ≤ length ts) × (r.columns ≤ n) × InRange r.hull × (all_good n ts (length ts - r.end) r.end ((i + 1) * n) ≡ true)
+      → (r.columns ≤ n) × InRange r.hull × (all_good n ts (length ts - r.end) r.end ((i + 1) * n) ≡ true)
+
+-- the row; or none, as a record from k on is not good
+abbrev pub RowFound : (n : ℕ) (ts : List Transfer) (i : ℕ) (h : Interval) (k : ℕ) → Option Row → Type 0
+RowFound n ts i h k (Some r) = RowEnd n ts i h k r
+RowFound n ts i h k None = InRange h → all_good n ts (length ts - k) k (i * n) ≢ true
 
 abbrev pub end : List ℕ → ℕ → ℕ
 end ends i = get_or ends i 0
@@ -70,49 +72,38 @@ pub record Rows (n : ℕ) (ts : List Transfer) (ends : List ℕ) (h : Interval) 
   pub last : end ends n ≡ length ts
   pub row : (i : ℕ) → i < n → RowOf n ts i h (end ends i) (end ends (i + 1))
 
--- found whole exactly if all records are good
-pub record AllRows (n : ℕ) (ts : List Transfer) (ends : List ℕ) (f : Found) : Type 0 where
-  pub is : f.whole ≡ true → Rows n ts ends f.hull × InRange f.hull
-  pub passes : all_good n ts (length ts) 0 0 ≡ true → f.whole ≡ true
+-- found exactly if all records are good
+abbrev pub AllRows : (n : ℕ) (ts : List Transfer) (ends : List ℕ) → Option Interval → Type 0
+AllRows n ts ends (Some h) = Rows n ts ends h × InRange h
+AllRows n ts ends None = all_good n ts (length ts) 0 0 ≢ true
 
 -- what the tests of the records said
-abbrev pub Told : (n : ℕ) (ts : List Transfer) (ends : List ℕ) → Tried → Type 0
-Told n ts ends (tried.Rows h) = Rows n ts ends h × InRange h
-Told n ts ends (tried.Fail o) = judgement n ts ≡ Fail o
+abbrev pub Told : (n : ℕ) (ts : List Transfer) (ends : List ℕ) → Result Interval Refusal → Type 0
+Told n ts ends (Ok h) = Rows n ts ends h × InRange h
+Told n ts ends (Err o) = judgement n ts ≡ Err o
 
--- rows with shares in the range; if short is true, their sums fit one word, and if above is, no share is below 0
-pub record Summable (n : ℕ) (ts : List Transfer) (ends : List ℕ) (short above : Bool) : Type 0 where
-  pub hull : Interval
-  pub rows : Rows n ts ends hull
-  pub range : InRange hull
-  pub few : short ≡ true → Short hull
-  pub shares : above ≡ true → pos 0 ≤ℤ hull.lo
+-- what the tests of a sweep call said
+abbrev pub Tested : (s : Listing) (allowed : ℕ) (X : List ℤ) (ends : List ℕ) → Result Interval Refusal → Type 0
+Tested s k X ends (Ok h) = (sweep_tests s k X ≡ Ok tt) × Rows s.size s.transfers ends h × InRange h
+Tested s k X ends (Err o) = sweep_tests s k X ≡ Err o
 
-pub record InRows (n : ℕ) (rs : List (List ℤ)) (ends : List ℕ) (short above : Bool) : Type 0 where
-  pub few : n ≤ 32
-  pub list : length rs ≤ 1_024
-  pub room : length ends ≡ 33
-  pub sums : Summable n (transfers_of rs) ends short above
-
--- the list in rows, and the square, right side and box that the passes are about
-pub record Listed (n : ℕ) (rs : List (List ℤ)) (ends : List ℕ) (known : Known) (r x : List ℤ) : Type 0 where
-  pub listed : InRows n rs ends known.short known.above
-  pub ready : Ready n (square n (transfers_of rs)) r x
-  pub box : known.above ≡ true → NoneBelow x
+-- the rows with a right side and a box, as the passes ask for them; if above is true, no share and no component is below 0
+pub record Passable (n : ℕ) (ts : List Transfer) (h : Interval) (above : Bool) (r x : List ℤ) : Type 0 where
+  pub ready : Ready n (square n ts) r x
+  pub signs : above ≡ true → (pos 0 ≤ℤ h.lo) × NoneBelow x
 
 -- ---- sums
 -- the component of the record k's giver
 abbrev pub component : List Transfer → List ℤ → (k : ℕ) → Interval
 component ts x k = at x (nat_abs (nth ts k).giver - 1)
 
--- the record k can be multiplied with it; if above is true, neither is below 0
-pub record Factors (n : ℕ) (ts : List Transfer) (x : List ℤ) (above : Bool) (k : ℕ) : Type 0 where
-  pub inside : is_component n (nth ts k).giver ≡ true
-  pub proper : interval.acceptable (share (nth ts k)) ≡ true
-  pub over : above ≡ true → (pos 0 ≤ℤ (share (nth ts k)).lo) × (pos 0 ≤ℤ (component ts x k).lo)
+-- neither the share of the record k nor its component is below 0
+pub record Above (ts : List Transfer) (x : List ℤ) (k : ℕ) : Type 0 where
+  pub share_above : pos 0 ≤ℤ (share (nth ts k)).lo
+  pub component_above : pos 0 ≤ℤ (component ts x k).lo
 
-abbrev pub Pair : (n : ℕ) (ts : List Transfer) (x : List ℤ) (above : Bool) (k : ℕ) → Type 0
-Pair n ts x above k = Factors n ts x above k × Factors n ts x above (k + 1)
+abbrev pub BothAbove : (ts : List Transfer) (x : List ℤ) (k : ℕ) → Type 0
+BothAbove ts x k = Above ts x k × Above ts x (k + 1)
 
 -- that product, unrounded; and with the next one
 unfoldable pub term : List Transfer → List ℤ → (k : ℕ) → Interval

@@ -1,9 +1,9 @@
+pub mod balance;
 pub mod calls;
 pub mod found;
 pub mod gather;
-pub mod gathered;
+pub mod in_rows;
 pub mod listed;
-pub mod passes;
 pub mod rounding;
 pub mod square;
 pub mod terms;

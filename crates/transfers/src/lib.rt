@@ -3,19 +3,21 @@
 pub mod internal;
 
 ghost use Rattle.std.specs.Prelude.{◌≡◌};
-ghost use Rattle.outcome.specs.Run.{returned};
+ghost use Rattle.outcome.specs.Run.{returned, answered};
 ghost use Rattle.sweep.specs.Calls.{sweep_call, symmetric_call};
-ghost use Rattle.transfers.specs.Listing.{listing};
+ghost use Rattle.transfers.specs.Listing.{listing, transfer_of};
 ghost use Rattle.transfers.specs.Call.{over_list, call_list};
+ghost use Rattle.transfers.specs.Code.{numbers_of};
 
-use crate::internal::gather::gathered;
-use crate::internal::gathered::{eliminate_gathered, sweep_gathered, symmetric_gathered};
-use outcome::Outcome;
+use crate::internal::calls::eliminate_records;
+use crate::internal::gather::{few_enough, gather, swept};
+use outcome::Refusal;
 use sweep::Swept;
+use sweep::internal::pass::Way;
 
 // A transfer: a share of what passes through the giving component goes on into the receiving one. Document 02, A7: receiving vat, giving vat, lower and upper share.
 #[repr(C)]
-#[derive(Clone, Copy)]
+#[derive(Clone, Copy, Debug, PartialEq, Eq)]
 pub struct Transfer {
     pub receiver: i64,
     pub giver: i64,
@@ -23,12 +25,43 @@ pub struct Transfer {
     pub hi: i64,
 }
 
+// Callers in C lend a record as four numbers, in the order of the fields.
+impl From<[i64; 4]> for Transfer {
+    ghost from_gives = { λ r t. t ≡ transfer_of r };
+
+    #[tactic(auto, unfolding(crate::specs::Listing::transfer_of))]
+    fn from(r: [i64; 4]) -> Transfer {
+        let [receiver, giver, lo, hi] = r;
+        Transfer {
+            receiver,
+            giver,
+            lo,
+            hi,
+        }
+    }
+}
+
+impl From<Transfer> for [i64; 4] {
+    ghost from_gives = { λ t r. r ≡ numbers_of t };
+
+    fn from(t: Transfer) -> [i64; 4] {
+        [t.receiver, t.giver, t.lo, t.hi]
+    }
+}
+
 // Eliminates from a list of transfers and b: bounds on the solutions of x = B·x + b, in the lent box.
-pub fn eliminate_transfers(n: usize, ts: &[Transfer], b: &[i64], bounds: &mut [i64]) -> Outcome
-    ensures { returned result 0 bounds.new ≡ over_list (listing n ts.now b.now) bounds.old }
+pub fn eliminate_transfers(
+    n: usize,
+    ts: &[Transfer],
+    b: &[i64],
+    bounds: &mut [i64],
+) -> Result<(), Refusal>
+    ensures { answered result bounds.new ≡ over_list (listing n ts.now b.now) bounds.old }
 {
-    let values = gathered(ts);
-    eliminate_gathered(n, ts.len(), values, b, bounds)
+    few_enough(n, ts.len())?;
+    let mut values = [[0i64; 4]; 1024];
+    gather(ts, ts.len(), &mut values);
+    eliminate_records(n, &values[..ts.len()], b, bounds)
 }
 
 // Tightens the lent box by at most so many sweeps, from a list of transfers and b.
@@ -42,8 +75,7 @@ pub fn sweep_transfers(
     ensures { returned result.outcome result.count bounds.new ≡
         call_list (listing n ts.now b.now) (sweep_call allowed) bounds.old }
 {
-    let values = gathered(ts);
-    sweep_gathered(n, ts.len(), values, b, bounds, allowed)
+    swept(n, Way::There, ts, b, bounds, allowed)
 }
 
 // Tightens the lent box by at most so many passes there and back, each counted as one sweep, from a list of transfers and b.
@@ -57,6 +89,5 @@ pub fn symmetric_sweep_transfers(
     ensures { returned result.outcome result.count bounds.new ≡
         call_list (listing n ts.now b.now) (symmetric_call allowed) bounds.old }
 {
-    let values = gathered(ts);
-    symmetric_gathered(n, ts.len(), values, b, bounds, allowed)
+    swept(n, Way::ThereAndBack, ts, b, bounds, allowed)
 }

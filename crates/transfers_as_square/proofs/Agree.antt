@@ -9,7 +9,7 @@ use lib.IntN.{ℤ}
 use lib.ListN.{length}
 use Rattle.outcome.specs.Run.{written}
 use Rattle.interval.specs.Interval.{acceptable}
-use Rattle.inputs.specs.declared.Test.TheVariants.{Pass}
+use Rattle.std.specs.Prelude.{Ok}
 use Rattle.inputs.specs.Tests.{both, need, lengths, proper, Part, all_proper}
 use Rattle.inputs.specs.Tests as inputs
 use Rattle.inputs.specs.System as system
@@ -29,15 +29,15 @@ use Rattle.transfers_as_square.specs.Claim.{Agree, NumbersAgree}
 use Rattle.transfers_as_square.proofs.Alike.{Alike, alike_self, alike_both, alike_all, three_tried, three_proper, alike_threes, agrees}
 
 -- ---- the records' intervals are those of the square that are not nought
-module _ (n : ℕ) (ts : List Transfer) (e : entries n ts ≡ Pass) where
-  in_square : shares ts (length ts) 0 ≡ Pass → proper (square n ts) (n * n) 0 0 ≡ Pass
+module _ (n : ℕ) (ts : List Transfer) (e : entries n ts ≡ Ok tt) where
+  in_square : shares ts (length ts) 0 ≡ Ok tt → proper (square n ts) (n * n) 0 0 ≡ Ok tt
   unfolding entries
   in_square f =
       let b = both_pass _ _ e in
       let s = square_sound n ts record { components = b.0; order = b.1; intervals = f } in
       proper_all (square n ts) (n * n) 0 0 (λ k h. s.each (0 + k))
 
-  in_list : proper (square n ts) (n * n) 0 0 ≡ Pass → shares ts (length ts) 0 ≡ Pass
+  in_list : proper (square n ts) (n * n) 0 0 ≡ Ok tt → shares ts (length ts) 0 ≡ Ok tt
   in_list f = tried_all _ _ (length ts) 0 go
     where
       go : (j : ℕ) → j < length ts → acceptable (share (nth ts (0 + j))) ≡ true
@@ -46,7 +46,7 @@ module _ (n : ℕ) (ts : List Transfer) (e : entries n ts ≡ Pass) where
   alike_shares : Alike (shares ts (length ts) 0) (proper (square n ts) (n * n) 0 0)
   alike_shares = alike_threes _ _ (three_tried _ (length ts) 0) (three_proper (square n ts) (n * n) 0 0) in_square in_list
 
-module _ (s : Listing) (short : length s.transfers ≤ 1024) (e : entries s.size s.transfers ≡ Pass) where
+module _ (s : Listing) (short : length s.transfers ≤ 1024) (e : entries s.size s.transfers ≡ Ok tt) where
   same_sizes : (l : ℕ) → sizes s l ≡ inputs.sizes s.size (slices (squared s) l)
   unfolding sizes inputs.sizes lengths both need
   same_sizes l = rw (le-leb (length s.transfers) 1024 short, eq-eqb _ _ (length_square s.size s.transfers))

@@ -7,14 +7,13 @@ use borrow.Author.Tests.{eq-eqb}
 use lib.Dec.{T, eqb}
 use lib.IntN.{ℤ}
 use lib.ListN.{length}
-use Rattle.outcome.specs.declared.Outcome.{Outcome}
-use Rattle.outcome.specs.declared.Outcome.TheVariants as outcome
+use Rattle.outcome.specs.declared.Refusal.{Refusal}
+use Rattle.outcome.specs.declared.Refusal.TheVariants as refusal
 use Rattle.outcome.specs.Table.{number_and_place}
 use Rattle.outcome.specs.Run.{Run, refused, written, ended}
-use Rattle.inputs.specs.declared.Test.{Test}
-use Rattle.inputs.specs.declared.Test.TheVariants.{Pass, Fail}
+use Rattle.inputs.specs.Tests.{Test, both, need, tested}
+use Rattle.std.specs.Prelude.{Ok, Err}
 use Rattle.inputs.specs.Tests as inputs
-use Rattle.inputs.specs.Tests.{both, need, tested}
 use Rattle.inputs.specs.System.{slices}
 use Rattle.elimination.specs.Call.{over_B, run_B}
 use Rattle.sweep.specs.Call.{Log, concluded, allowance}
@@ -29,15 +28,15 @@ use Rattle.transfers_as_square.proofs.Plain.{Neither, Plain, plain_tests, plain_
 use Rattle.transfers_as_square.proofs.Same.{same_as_square}
 
 -- ---- an elimination that accepted passed its tests
-not_nought : (o : Outcome) → Neither o → (number_and_place o).number ≡ 0 → ⊥
+not_nought : (o : Refusal) → Neither o → (number_and_place (Err o)).number ≡ 0 → ⊥
 not_nought o h e =
-    let z : true ≡ false = rw (eq-eqb (number_and_place o).number 0 e) at h in
+    let z : true ≡ false = rw (eq-eqb (number_and_place (Err o)).number 0 e) at h in
     subst T z tt
 
-has_passed : (t : Test) (r : Run (List ℤ)) (X : List ℤ) → Plain t → (ended written X (tested t r)).number ≡ 0 → t ≡ Pass
+has_passed : (t : Test) (r : Run (List ℤ)) (X : List ℤ) → Plain t → (ended written X (tested t r)).number ≡ 0 → t ≡ Ok tt
 unfolding tested ended
-has_passed Pass r X h e = refl
-has_passed (Fail o) r X h e = absurd (not_nought o h.on e)
+has_passed (Ok _) r X h e = refl
+has_passed (Err o) r X h e = absurd (not_nought o h.on e)
 
 accepted : (s : Listing) (box X : List ℤ) → Accepted (over_list s) box X → Accepted (over_B (squared s)) box X
 unfolding run_list
@@ -52,37 +51,37 @@ record Stands (a b : Run Log) (X : List ℤ) : Type 0 where
   left : (ended (concluded X) X a).left ≡ (ended (concluded X) X b).left
   empty : eqb (ended (concluded X) X a).number 7 ≡ eqb (ended (concluded X) X b).number 7
 
-no_seven : (o : Outcome) → Neither o → eqb (number_and_place o).number 7 ≡ false
-no_seven o h = go (eqb (number_and_place o).number 0) (eqb (number_and_place o).number 7) h
+no_seven : (o : Refusal) → Neither o → eqb (number_and_place (Err o)).number 7 ≡ false
+no_seven o h = go (eqb (number_and_place (Err o)).number 0) (eqb (number_and_place (Err o)).number 7) h
   where
     go : (a b : Bool) → (a || b) ≡ false → b ≡ false
     go true b e = absurd (subst T e tt)
     go false b e = e
 
-both_refused : (o p : Outcome) (X : List ℤ) → Neither o → Neither p → Stands (refused o) (refused p) X
+both_refused : (o p : Refusal) (X : List ℤ) → Neither o → Neither p → Stands (refused o) (refused p) X
 unfolding ended
 both_refused o p X h k = record { sweeps = refl; left = refl; empty = no_seven o h ∙ sym (no_seven p k) }
 
-nought_refused : (o : Outcome) → Neither o → (X : List ℤ) (t u : Test) (r : Run Log) → Plain t → Stands (refused o) (tested (both t (both (Fail outcome.Allowed) u)) r) X
+nought_refused : (o : Refusal) → Neither o → (X : List ℤ) (t u : Test) (r : Run Log) → Plain t → Stands (refused o) (tested (both t (both (Err refusal.Allowed) u)) r) X
 unfolding tested both
-nought_refused o h X Pass u r k = both_refused o outcome.Allowed X h refl
-nought_refused o h X (Fail p) u r k = both_refused o p X h k.on
+nought_refused o h X (Ok _) u r k = both_refused o refusal.Allowed X h refl
+nought_refused o h X (Err p) u r k = both_refused o p X h k.on
 
 module _ (s : Listing) where
   -- with no sweeps allowed, the square's call is refused
-  refused_both : (o : Outcome) → Neither o → (X : List ℤ) → Stands (refused o) (run (squared s) (sweep_call 0) X) X
+  refused_both : (o : Refusal) → Neither o → (X : List ℤ) → Stands (refused o) (run (squared s) (sweep_call 0) X) X
   unfolding run_by sweep.tests allowance need
   refused_both o h X = nought_refused o h X (inputs.sizes s.size (slices (squared s) (length X))) _ _ (plain_input_sizes _ _)
 
   -- the square's call that a call stands for, by what the list's tests say
   abbrev stand_in : Test → Call → Call
-  stand_in Pass c = c
-  stand_in (Fail o) c = sweep_call 0
+  stand_in (Ok _) c = c
+  stand_in (Err o) c = sweep_call 0
 
   stands : (t : Test) → Plain t → (c : Call) (X : List ℤ) → Stands (tested t (run (squared s) c X)) (run (squared s) (stand_in t c) X) X
   unfolding tested
-  stands Pass h c X = record { sweeps = refl; left = refl; empty = refl }
-  stands (Fail o) h c X = refused_both o h.on X
+  stands (Ok _) h c X = record { sweeps = refl; left = refl; empty = refl }
+  stands (Err o) h c X = refused_both o h.on X
 
   abbrev stand_ins : List Call → List ℤ → List Call
   stand_ins [] X = []

@@ -6,7 +6,7 @@ use native.Mathlib.Omega.{arith}
 use native.Mathlib.Decide.{dec_lt}
 use lib.IntN.{pos, nat_abs}
 use lib.ListN.{length}
-use Rattle.inputs.specs.declared.Test.TheVariants.{Pass}
+use Rattle.std.specs.Prelude.{Ok}
 use Rattle.inputs.specs.Place.{cell}
 use Rattle.inputs.proofs.Tests.{rows_apart}
 use Rattle.transfers.specs.declared.Transfer.{Transfer}
@@ -27,7 +27,7 @@ cell_same n i j k l h g e = go (dec_lt i k) (dec_lt k i)
         (q, omega (arith, e, f))
 
 -- a list that passes 11 and 12
-module _ (n : ℕ) (ts : List Transfer) (passes : entries n ts ≡ Pass) where
+module _ (n : ℕ) (ts : List Transfer) (passes : entries n ts ≡ Ok tt) where
   -- the place of a pair
   at_cell : (t : Transfer) (i j : ℕ) → Of t i j → place_of n t ≡ cell n i j
   unfolding place_of

@@ -1,9 +1,8 @@
 -- Document 02, A7: what a list of transfers stands for, 'A pair that is not listed is nought', and 'the same outcome as from the square it
 -- stands for'.
-use Rattle.std.specs.Prelude.{◌≡◌, ◌≢◌, List, ℕ, ◌+◌, ◌<◌, ◌≤◌, ℤ, pos, length}
+use Rattle.std.specs.Prelude.{◌≡◌, ◌≢◌, List, ℕ, ◌+◌, ◌<◌, ◌≤◌, ℤ, pos, length, Ok}
 use Rattle.outcome.specs.Run.{Returned}
 use Rattle.interval.specs.Interval.{zero}
-use Rattle.inputs.specs.declared.Test.TheVariants.{Pass}
 use Rattle.inputs.specs.Place.{at, cell}
 use Rattle.elimination.specs.Call.{over_B}
 use Rattle.sweep.specs.Calls.{Call, call, changes_by, any_empty_by}
@@ -24,13 +23,13 @@ pub record Stands (n : ℕ) (ts : List Transfer) : Type 0 where
 
 -- for every list that passes 11 and 12
 abbrev pub SquareStands : Type 0
-SquareStands = (n : ℕ) (ts : List Transfer) → entries n ts ≡ Pass → Stands n ts
+SquareStands = (n : ℕ) (ts : List Transfer) → entries n ts ≡ Ok tt → Stands n ts
 
 -- ---- the outcomes
 -- where the list's own tests pass, number, place, count and box are those of the square's call
 pub record Same (s : Listing) : Type 0 where
-  pub elimination : (X : List ℤ) → tests s (length X) ≡ Pass → over_list s X ≡ over_B (squared s) X
-  pub sweeps : (c : Call) (X : List ℤ) → sweep_tests s (allowed_of c) X ≡ Pass → call_list s c X ≡ call (squared s) c X
+  pub elimination : (X : List ℤ) → tests s (length X) ≡ Ok tt → over_list s X ≡ over_B (squared s) X
+  pub sweeps : (c : Call) (X : List ℤ) → sweep_tests s (allowed_of c) X ≡ Ok tt → call_list s c X ≡ call (squared s) c X
 
 abbrev pub SameAsSquare : Type 0
 SameAsSquare = (s : Listing) → Same s
@@ -48,7 +47,7 @@ pub record AllAgree (s : Listing) : Type 0 where
 
 -- for every list that is not too long and passes 11 and 12
 abbrev pub NumbersAgree : Type 0
-NumbersAgree = (s : Listing) → length s.transfers ≤ 1_024 → entries s.size s.transfers ≡ Pass → AllAgree s
+NumbersAgree = (s : Listing) → length s.transfers ≤ 1_024 → entries s.size s.transfers ≡ Ok tt → AllAgree s
 
 -- ---- the accuracy rule
 -- an elimination from the list that accepted is one from the square, so that its box is a start of the rule; and for any start and any list

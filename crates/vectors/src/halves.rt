@@ -1,97 +1,69 @@
 // The four operations on a state, which stands between the calls on a system.
 ghost use Rattle.std.specs.Prelude.{◌≤◌, length};
+ghost use Rattle.vectors.specs.Reader.{Passed};
 
-use crate::file::{Head, read_natural, read_number, room};
-use crate::lines;
+use crate::equations::Equations;
+use crate::reader::{Reader, first};
 use half_rows::internal::state::BOX;
 use half_rows::{half_down, half_up, load, narrow};
-use outcome::Outcome;
+use outcome::Refusal;
 
-pub(crate) fn is_half(letter: u8) -> bool {
-    match letter {
-        b'L' | b'U' | b'D' | b'Z' => true,
-        _ => false,
-    }
+#[derive(Clone, Copy, Debug, PartialEq, Eq)]
+enum Operation {
+    Load,
+    HalfUp,
+    HalfDown,
+    // a vat, and the ends to narrow it by
+    Narrow(usize, i64, i64),
 }
 
-// A vat, the ends to narrow it by, and the place after them.
-#[derive(Clone, Copy)]
-struct Narrowing {
-    vat: usize,
-    lo: i64,
-    hi: i64,
-    at: usize,
+// An operation on so many first numbers of the state.
+#[derive(Clone, Copy, Debug, PartialEq, Eq)]
+pub(crate) struct OnState {
+    operation: Operation,
+    size: usize,
 }
 
-// What to narrow, which only a narrowing has.
-fn read_narrowing(file: &[u8], letter: u8, from: usize) -> Narrowing {
-    if letter != b'Z' {
-        return Narrowing {
-            vat: 0,
-            lo: 0,
-            hi: 0,
-            at: from,
-        };
-    }
-    let vat = read_natural(file, from);
-    let lower = read_number(file, vat.at);
-    let upper = read_number(file, lower.at);
-    Narrowing {
-        vat: vat.value as usize,
-        lo: lower.value,
-        hi: upper.value,
-        at: upper.at,
-    }
+fn narrowing(reader: &mut Reader) -> Operation
+    ensures { Passed reader.old reader.new }
+{
+    let vat = reader.natural();
+    let lo = reader.number();
+    let hi = reader.number();
+    Operation::Narrow(vat, lo, hi)
 }
 
-fn answer(
-    letter: u8,
-    n: usize,
-    matrix: &[i64],
-    right: &[i64],
-    bounds: &[i64],
-    state: &mut [i64],
-    w: Narrowing,
-) -> Outcome {
-    match letter {
-        b'L' => load(state, n, matrix, right, bounds),
-        b'U' => half_up(state),
-        b'D' => half_down(state),
-        _ => narrow(state, w.vat, w.lo, w.hi),
+// The operation that a letter stands for, if it is one of the four.
+pub(crate) fn read(letter: u8, reader: &mut Reader) -> Option<OnState>
+    ensures { Passed reader.old reader.new }
+{
+    let size = reader.natural();
+    let operation = match letter {
+        b'L' => Operation::Load,
+        b'U' => Operation::HalfUp,
+        b'D' => Operation::HalfDown,
+        b'Z' => narrowing(reader),
+        _ => return None,
+    };
+    Some(OnState { operation, size })
+}
+
+pub(crate) fn operate(state: &mut [i64], system: &Equations, call: OnState) -> Result<(), Refusal> {
+    let state = first(state, call.size);
+    match call.operation {
+        Operation::Load => load(state, system.n, system.matrix, system.right, system.bounds),
+        Operation::HalfUp => half_up(state),
+        Operation::HalfDown => half_down(state),
+        Operation::Narrow(vat, lo, hi) => narrow(state, vat, lo, hi),
     }
 }
 
 // What the state holds where the box of n vats stands; nothing where n is above 32.
-fn show_box(rt: &impl Print, n: usize, state: &[i64])
+pub(crate) fn box_of(state: &[i64], n: usize) -> &[i64]
     requires { 66 ≤ length state.now }
 {
     if n > 32 {
-        return;
+        return &[];
     }
-    lines::numbers(rt, &state[BOX..BOX + 2 * n]);
-}
-
-// One operation on the first numbers of the state, as many as the file says, and its line: how it ended, and the box that the state holds after it.
-pub(crate) fn call(
-    rt: &impl Print,
-    file: &[u8],
-    h: Head,
-    n: usize,
-    matrix: &[i64],
-    right: &[i64],
-    bounds: &[i64],
-    state: &mut [i64],
-) -> usize
-    requires { 66 ≤ length state.old }
-{
-    let size = read_natural(file, h.at);
-    let w = read_narrowing(file, h.letter, size.at);
-    let at = w.at;
-    let s_size = room(size.value, state.len());
-    let o = answer(h.letter, n, matrix, right, bounds, &mut state[..s_size], w);
-    lines::begin(rt, h);
-    lines::outcome(rt, o);
-    show_box(rt, n, state);
-    lines::end(rt);
-    at
+    &state[BOX..BOX + 2 * n]
 }

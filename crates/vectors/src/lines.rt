@@ -1,46 +1,82 @@
 // The lines that are printed, one a case. A write that fails is passed over.
-use crate::file::Head;
-use outcome::Outcome;
-use report::internal::decimal::put_decimal;
+use crate::reader::Head;
+use outcome::{Ending, Outcome, Refusal, number, place};
+use report::Written;
+use std::fmt::Display;
+use sweep::Swept;
+
+// How a call ended, and its count, if it has one.
+#[derive(Clone, Copy)]
+pub(crate) struct Answer {
+    outcome: Outcome,
+    count: Option<usize>,
+}
+
+impl From<Result<(), Refusal>> for Answer {
+    fn from(ended: Result<(), Refusal>) -> Answer {
+        Answer {
+            outcome: ended.map(|()| Ending::Done),
+            count: None,
+        }
+    }
+}
+
+impl From<Swept> for Answer {
+    fn from(swept: Swept) -> Answer {
+        Answer {
+            outcome: swept.outcome,
+            count: Some(swept.count),
+        }
+    }
+}
+
+// The count is 0 with a refusal.
+impl From<Result<usize, Refusal>> for Answer {
+    fn from(counted: Result<usize, Refusal>) -> Answer {
+        Answer {
+            outcome: counted.map(|_| Ending::Done),
+            count: Some(counted.unwrap_or(0)),
+        }
+    }
+}
+
+impl From<Result<Written, Refusal>> for Answer {
+    fn from(written: Result<Written, Refusal>) -> Answer {
+        Answer {
+            outcome: written.map(|w| w.ending),
+            count: Some(written.map_or(0, |w| w.count)),
+        }
+    }
+}
 
 pub(crate) fn say(rt: &impl Print, s: &[u8]) {
     let _ = rt.write_all(s);
 }
 
 // A line begins with its case and the letter of the call.
-pub(crate) fn begin(rt: &impl Print, h: Head) {
-    let _ = rt.print(h.case);
-    say(rt, b" ");
-    say(rt, &[h.letter]);
+pub(crate) fn begin(rt: &impl Print, head: Head) {
+    let _ = print!(rt; "{} {}", head.case, char::from(head.letter));
 }
 
 pub(crate) fn end(rt: &impl Print) {
     say(rt, b"\n");
 }
 
-pub(crate) fn natural(rt: &impl Print, n: u64) {
-    say(rt, b" ");
-    let _ = rt.print(n);
+pub(crate) fn value(rt: &impl Print, x: impl Display + Drop) {
+    let _ = print!(rt; " {x}");
 }
 
-pub(crate) fn number(rt: &impl Print, z: i64) {
-    let mut out = [b' '; 21];
-    let k = put_decimal(&mut out, 1, z);
-    say(rt, &out[..k]);
-}
-
-pub(crate) fn numbers(rt: &impl Print, t: &[i64]) {
-    for i in 0..t.len() {
-        number(rt, t[i]);
+pub(crate) fn values(rt: &impl Print, t: &[i64]) {
+    for z in t {
+        value(rt, *z);
     }
 }
 
-// Document 01's number and place.
-pub(crate) fn ended(rt: &impl Print, number: u64, place: usize) {
-    natural(rt, number);
-    natural(rt, place as u64);
-}
-
-pub(crate) fn outcome(rt: &impl Print, o: Outcome) {
-    ended(rt, o.number(), o.place());
+// Document 01's number and place, and the count if there is one.
+pub(crate) fn ended(rt: &impl Print, answer: Answer) {
+    value(rt, number(answer.outcome));
+    value(rt, place(answer.outcome));
+    if let Some(count) = answer.count {
+        value(rt, count);
+    }
 }

@@ -1,21 +1,29 @@
 // The calls on a list of transfers in place of the matrix.
-ghost use Rattle.std.specs.Prelude.{◌+◌, ◌*◌, ◌<◌, ◌≤◌, length};
+ghost use Rattle.vectors.specs.Reader.{Passed};
 
-use crate::file::{Head, Natural, fill, read_head, read_natural, room};
+use crate::calls::{Subject, run_calls};
+use crate::equations::{Equations, Room};
 use crate::lines;
-use sweep::Swept;
-use transfers::Transfer;
-use transfers::internal::gather::gathered;
-use transfers::internal::gathered::{eliminate_gathered, sweep_gathered, symmetric_gathered};
+use crate::lines::Answer;
+use crate::reader::{Reader, first};
+use transfers::{Transfer, eliminate_transfers, sweep_transfers, symmetric_sweep_transfers};
 
-// The record at k of a list of numbers, four to a record.
-fn transfer(flat: &[i64], k: usize) -> Transfer
-    requires { (4 * k + 3 < length flat.now) × (length flat.now ≤ 4100) }
-{
-    let receiver = flat[4 * k];
-    let giver = flat[4 * k + 1];
-    let lo = flat[4 * k + 2];
-    let hi = flat[4 * k + 3];
+#[derive(Clone, Copy, Debug, PartialEq, Eq)]
+pub(crate) enum Call {
+    Eliminate,
+    // with the sweeps allowed
+    Sweep(usize),
+    SymmetricSweep(usize),
+}
+
+#[derive(Drop)]
+struct List<'a, 'b> {
+    equations: Equations<'a, 'b>,
+    transfers: &'a [Transfer],
+}
+
+// A transfer from its four numbers. No From: neither type is of this crate.
+fn transfer([receiver, giver, lo, hi]: [i64; 4]) -> Transfer {
     Transfer {
         receiver,
         giver,
@@ -24,162 +32,59 @@ fn transfer(flat: &[i64], k: usize) -> Transfer
     }
 }
 
-// The numbers as records; noughts behind them.
-fn list(flat: &[i64]) -> [Transfer; 1025]
-    requires { length flat.now ≤ 4100 }
-{
-    let none = Transfer {
-        receiver: 0,
-        giver: 0,
-        lo: 0,
-        hi: 0,
-    };
-    let mut ts = [none; 1025];
-    let count = flat.len() / 4;
-    for k in 0..count {
-        let t = transfer(flat, k);
-        ts[k] = t;
+// The numbers as transfers, as far as there is room.
+fn listed<'a>(numbers: &[i64], room: &'a mut [Transfer]) -> &'a [Transfer] {
+    let (records, _) = numbers.as_chunks::<4>();
+    for (t, record) in room.iter_mut().zip(records) {
+        *t = transfer(*record);
     }
-    ts
+    first(room, records.len())
 }
 
-// What is gathered from the first records, as the calls on a lent slice of them do it.
-fn first_gathered(ts: [Transfer; 1025], count: usize) -> [[i64; 4]; 1024]
-    requires { count ≤ 1025 }
-{
-    gathered(&ts[..count])
-}
-
-fn is_call(letter: u8) -> bool {
-    match letter {
-        b'E' | b'G' | b'H' => true,
-        _ => false,
-    }
-}
-
-// The sweeps allowed, which an elimination has not.
-fn allowance(file: &[u8], h: Head) -> Natural {
-    if h.letter == b'E' {
-        return Natural { value: 0, at: h.at };
-    }
-    read_natural(file, h.at)
-}
-
-// What a call returns. An elimination has no count.
-fn answer(
-    letter: u8,
-    n: usize,
-    count: usize,
-    values: [[i64; 4]; 1024],
-    right: &[i64],
-    bounds: &mut [i64],
-    allowed: usize,
-) -> Swept {
-    if letter == b'E' {
-        let outcome = eliminate_gathered(n, count, values, right, bounds);
-        return Swept { outcome, count: 0 };
-    }
-    if letter == b'H' {
-        return symmetric_gathered(n, count, values, right, bounds, allowed);
-    }
-    sweep_gathered(n, count, values, right, bounds, allowed)
-}
-
-// One call, and its line: how the call ended, and all that the box holds after it.
-fn call(
-    rt: &impl Print,
-    file: &[u8],
-    h: Head,
-    n: usize,
-    flat: &[i64],
-    right: &[i64],
-    bounds: &mut [i64],
-) -> usize
-    requires { length flat.now ≤ 4100 }
-{
-    let allowed = allowance(file, h);
-    let count = flat.len() / 4;
-    let values = first_gathered(list(flat), count);
-    let r = answer(
-        h.letter,
-        n,
-        count,
-        values,
-        right,
-        bounds,
-        allowed.value as usize,
-    );
-    let o = r.outcome;
-    lines::begin(rt, h);
-    lines::outcome(rt, o);
-    if h.letter != b'E' {
-        lines::natural(rt, r.count as u64);
-    }
-    lines::numbers(rt, bounds);
-    lines::end(rt);
-    allowed.at
-}
-
-// The calls on a list. Each has the box as the one before left it.
-fn calls(
-    rt: &impl Print,
-    file: &[u8],
-    from: usize,
-    n: usize,
-    flat: &[i64],
-    right: &[i64],
-    bounds: &mut [i64],
-) -> usize
-    requires { length flat.now ≤ 4100 }
-{
-    let mut at = from;
-    for k in 0..file.len() {
-        let h = read_head(file, at);
-        if !is_call(h.letter) {
-            return at;
+fn bound(list: &mut List, call: Call) -> Answer {
+    let (n, transfers, right) = (list.equations.n, list.transfers, list.equations.right);
+    let bounds = &mut *list.equations.bounds;
+    match call {
+        Call::Eliminate => eliminate_transfers(n, transfers, right, bounds).into(),
+        Call::Sweep(allowed) => sweep_transfers(n, transfers, right, bounds, allowed).into(),
+        Call::SymmetricSweep(allowed) => {
+            symmetric_sweep_transfers(n, transfers, right, bounds, allowed).into()
         }
-        at = call(rt, file, h, n, flat, right, bounds);
     }
-    at
 }
 
-// Reads the numbers of a list, a right side and a box, and runs their calls.
-fn filled(
-    rt: &impl Print,
-    file: &[u8],
-    from: usize,
-    n: usize,
-    flat: &mut [i64],
-    right: &mut [i64],
-    bounds: &mut [i64],
-) -> usize
-    requires { length flat.old ≤ 4100 }
-{
-    let at = fill(file, from, flat);
-    let at = fill(file, at, right);
-    let at = fill(file, at, bounds);
-    calls(rt, file, at, n, flat, right, bounds)
+impl Subject for List<'_, '_> {
+    type Call = Call;
+
+    fn read(letter: u8, reader: &mut Reader) -> Option<Call>
+        ensures { Passed reader.old reader.new }
+    {
+        match letter {
+            b'E' => Some(Call::Eliminate),
+            b'G' => Some(Call::Sweep(reader.natural())),
+            b'H' => Some(Call::SymmetricSweep(reader.natural())),
+            _ => None,
+        }
+    }
+
+    // Printed are all numbers of the box after the call.
+    fn run<P: Print>(&mut self, rt: &P, call: Call) {
+        lines::ended(rt, bound(self, call));
+        lines::values(rt, self.equations.bounds);
+    }
 }
 
 // A list: n, the lengths of list, right side and box, and the numbers of all three. Its calls follow.
-pub(crate) fn listing(rt: &impl Print, file: &[u8], from: usize) -> usize {
-    let n = read_natural(file, from);
-    let l = read_natural(file, n.at);
-    let r = read_natural(file, l.at);
-    let b = read_natural(file, r.at);
-    let mut flat = [0i64; 4100];
-    let mut right = [0i64; 128];
-    let mut bounds = [0i64; 128];
-    let l_size = room(l.value, 4100);
-    let r_size = room(r.value, 128);
-    let b_size = room(b.value, 128);
-    filled(
-        rt,
-        file,
-        b.at,
-        n.value as usize,
-        &mut flat[..l_size],
-        &mut right[..r_size],
-        &mut bounds[..b_size],
-    )
+pub(crate) fn run(rt: &impl Print, reader: &mut Reader)
+    ensures { Passed reader.old reader.new }
+{
+    let mut room = Room::<4100>::new();
+    let mut transfers = [transfer([0; 4]); 1025];
+    let equations = room.read(reader);
+    let transfers = listed(equations.matrix, &mut transfers);
+    let mut list = List {
+        equations,
+        transfers,
+    };
+    run_calls(rt, reader, &mut list);
 }

@@ -26,75 +26,102 @@
 //     P length        what 'balance' prints for it, into a slice of this length
 //     F from byte     the first such byte in it, from a place on, which may lie past its end: its place, or 'none'
 mod boxes;
-mod file;
+mod calls;
+mod equations;
 mod halves;
 mod lines;
 mod lists;
+mod reader;
 mod steps;
 mod systems;
 mod texts;
 
-ghost use Rattle.report.specs.Call.{IsPrefixLen};
+ghost use Rattle.vectors.specs.Reader.{Passed};
 
-use crate::file::{line_end, read_head};
+use crate::reader::{Head, Reader};
+use crate::steps::Operation;
 use std::fs::File;
 use std::io::Read;
 
-// What begins at a place, and the place after it.
-fn run(rt: &impl Print, cases: &[u8], at: usize) -> usize {
-    let h = read_head(cases, at);
-    let letter = h.letter;
-    match letter {
-        b'+' | b'-' | b'*' | b'/' => steps::step(rt, cases, h),
-        b'M' => systems::system(rt, cases, h.at),
-        b'V' => lists::listing(rt, cases, h.at),
-        b'C' => boxes::pair(rt, cases, h),
-        b'T' => texts::text(rt, cases, h.at),
-        b'#' => line_end(cases, h.at),
-        0 => cases.len(),
-        _ => {
-            lines::say(rt, b"no such call\n");
-            cases.len()
+// What a letter says that follows.
+#[derive(Clone, Copy, Debug, PartialEq, Eq)]
+enum Kind {
+    Remark,
+    Step(Operation),
+    System,
+    List,
+    Boxes,
+    Text,
+}
+
+// A letter that nothing begins with.
+#[derive(Clone, Copy, Debug, PartialEq, Eq)]
+struct UnknownLetter(u8);
+
+impl TryFrom<u8> for Kind {
+    type Error = UnknownLetter;
+
+    fn try_from(letter: u8) -> Result<Kind, UnknownLetter> {
+        match letter {
+            b'#' => Ok(Kind::Remark),
+            b'+' => Ok(Kind::Step(Operation::Sum)),
+            b'-' => Ok(Kind::Step(Operation::Difference)),
+            b'*' => Ok(Kind::Step(Operation::Product)),
+            b'/' => Ok(Kind::Step(Operation::Quotient)),
+            b'M' => Ok(Kind::System),
+            b'V' => Ok(Kind::List),
+            b'C' => Ok(Kind::Boxes),
+            b'T' => Ok(Kind::Text),
+            _ => Err(UnknownLetter(letter)),
         }
     }
 }
 
-// Each turn passes at least one byte.
+// What a line begins.
+fn run(rt: &impl Print, reader: &mut Reader, head: Head) -> Result<(), UnknownLetter>
+    ensures { Passed reader.old reader.new }
+{
+    match Kind::try_from(head.letter)? {
+        Kind::Remark => reader.line(),
+        Kind::Step(operation) => steps::run(rt, reader, head, operation),
+        Kind::System => systems::run(rt, reader),
+        Kind::List => lists::run(rt, reader),
+        Kind::Boxes => boxes::run(rt, reader, head),
+        Kind::Text => texts::run(rt, reader),
+    }
+    Ok(())
+}
+
+// A byte 0 for a letter ends the cases.
 fn run_all(rt: &impl Print, cases: &[u8]) {
-    let mut at = 0;
-    for k in 0..cases.len() {
-        at = run(rt, cases, at);
-        if at >= cases.len() {
+    let mut reader = Reader::new(cases);
+    while let Some(head) = reader.head() {
+        if let Err(UnknownLetter(letter)) = run(rt, &mut reader, head) {
+            if letter != 0 {
+                lines::say(rt, b"no such call\n");
+            }
             return;
         }
     }
 }
 
-// What the file holds, as far as buf holds it, and no more than was read before a read that fails.
-fn read_cases<R: Read>(file: &mut R, buf: &mut [u8]) -> usize
-    ensures { IsPrefixLen result buf.new }
-{
+// What the file holds, as far as buf has room for it, and no more than was read before a read that fails.
+fn read_cases<'a, R: Read>(file: &mut R, buf: &'a mut [u8]) -> &'a [u8] {
+    // by a place: it moves by as many bytes as each read gives
     let mut done = 0;
-    while done < buf.len() {
-        match file.read(&mut buf[done..]) {
-            Ok(more) => {
-                if more == 0 {
-                    return done;
-                }
-                done += more;
-            }
-            Err(_) => return done,
-        }
+    while let Ok(more) = file.read(&mut buf[done..])
+        && more > 0
+    {
+        done += more;
     }
-    done
+    &buf[..done]
 }
 
 fn main(rt: HostRuntime) {
     match File::open(&rt, "cases") {
         Ok(mut file) => {
             let mut cases = [0u8; 1048576];
-            let size = read_cases(&mut file, &mut cases);
-            run_all(&rt, &cases[..size]);
+            run_all(&rt, read_cases(&mut file, &mut cases));
         }
         Err(e) => {
             let _ = eprintln!(rt; "cases: {e}");

@@ -1,12 +1,17 @@
-use crate::file::{Head, read_number};
-use crate::lines;
-use interval::{Interval, Step};
+ghost use Rattle.vectors.specs.Reader.{Passed};
 
-// An interval, and the place after it.
-#[derive(Clone, Copy)]
-struct Operand {
-    value: Interval,
-    at: usize,
+use crate::lines;
+use crate::reader::{Head, Reader};
+use interval::Interval;
+use outcome::Refusal;
+
+// A step on two intervals.
+#[derive(Clone, Copy, Debug, PartialEq, Eq)]
+pub(crate) enum Operation {
+    Sum,
+    Difference,
+    Product,
+    Quotient,
 }
 
 // A single number where the ends are equal.
@@ -17,47 +22,38 @@ fn interval_of(lo: i64, hi: i64) -> Interval {
     Interval { lo, hi }
 }
 
-fn read_operand(file: &[u8], from: usize) -> Operand {
-    let lower = read_number(file, from);
-    let upper = read_number(file, lower.at);
-    let value = interval_of(lower.value, upper.value);
-    Operand {
-        value,
-        at: upper.at,
-    }
+fn operand(reader: &mut Reader) -> Interval
+    ensures { Passed reader.old reader.new }
+{
+    let lo = reader.number();
+    let hi = reader.number();
+    interval_of(lo, hi)
 }
 
-fn answer(letter: u8, x: Interval, y: Interval) -> Step {
-    match letter {
-        b'+' => x.sum(y),
-        b'-' => x.difference(y),
-        b'*' => x.product(y),
-        _ => x.quotient(y),
-    }
+fn calculate(operation: Operation, x: Interval, y: Interval) -> Result<Interval, Refusal> {
+    let value = match operation {
+        Operation::Sum => x.sum(y),
+        Operation::Difference => x.difference(y),
+        Operation::Product => x.product(y),
+        Operation::Quotient => x.quotient(y),
+    }?;
+    Ok(value)
 }
 
 // Document 01's number and place, and the interval if there is one.
-fn show(rt: &impl Print, s: Step) {
-    match s {
-        Step::Value(v) => {
-            lines::ended(rt, 0, 0);
-            lines::number(rt, v.lo);
-            lines::number(rt, v.hi);
-        }
-        Step::BadOperand(operand) => lines::ended(rt, 3, operand),
-        Step::ZeroDivisor => lines::ended(rt, 5, 0),
-        Step::OutOfRange => lines::ended(rt, 6, 0),
+fn show(rt: &impl Print, answer: Result<Interval, Refusal>) {
+    lines::ended(rt, answer.map(|_| ()).into());
+    if let Ok(v) = answer {
+        lines::values(rt, &[v.lo, v.hi]);
     }
 }
 
-// A step on two intervals: + - * /
-pub(crate) fn step(rt: &impl Print, file: &[u8], h: Head) -> usize {
-    let x = read_operand(file, h.at);
-    let y = read_operand(file, x.at);
-    let a = x.value;
-    let b = y.value;
-    lines::begin(rt, h);
-    show(rt, answer(h.letter, a, b));
+pub(crate) fn run(rt: &impl Print, reader: &mut Reader, head: Head, operation: Operation)
+    ensures { Passed reader.old reader.new }
+{
+    let x = operand(reader);
+    let y = operand(reader);
+    lines::begin(rt, head);
+    show(rt, calculate(operation, x, y));
     lines::end(rt);
-    y.at
 }

@@ -1,15 +1,13 @@
 use mathlib.Core.Path.{sym, ◌∙◌}
 use Rattle.elimination.specs.Call.{run_A}
 use Rattle.inputs.proofs.System.{call_runs, call_fails}
+use Rattle.elimination.proofs.Call.{handed_on}
 use Rattle.elimination.proofs.eliminate.Goals as goal
 
-pub solve-requires : goal.solve-requires
-solve-requires c = sym c.tested.ensures ∙ c.in-Pass.is
-
-pub returns-in-Pass : goal.returns-in-Pass
+pub returns-in_err-tested : goal.returns-in_err-tested
 unfolding run_A
-returns-in-Pass c = (call_runs _ _ _ (sym c.tested.ensures ∙ c.in-Pass.is) c.solve.ensures).is
+returns-in_err-tested c = (handed_on c.from_residual.ensures.1 (call_fails _ _ _ (sym c.tested.ensures ∙ c.in_err-tested.was))).is
 
-pub returns-in-Fail : goal.returns-in-Fail
+pub returns : goal.returns
 unfolding run_A
-returns-in-Fail c = (call_fails _ _ _ (sym c.tested.ensures ∙ c.in-Fail.is)).is
+returns c = (call_runs _ _ _ (sym c.tested.ensures ∙ c.in_ok-tested.was) c.solve.ensures).is

@@ -1,15 +1,13 @@
 use mathlib.Core.Path.{sym, ◌∙◌}
 use Rattle.elimination.specs.Call.{run_B}
 use Rattle.inputs.proofs.System.{call_runs, call_fails}
+use Rattle.elimination.proofs.Call.{handed_on}
 use Rattle.elimination.proofs.eliminate_balance.Goals as goal
 
-pub solve_balance-requires : goal.solve_balance-requires
-solve_balance-requires c = sym c.tested.ensures ∙ c.in-Pass.is
-
-pub returns-in-Pass : goal.returns-in-Pass
+pub returns-in_err-tested : goal.returns-in_err-tested
 unfolding run_B
-returns-in-Pass c = (call_runs _ _ _ (sym c.tested.ensures ∙ c.in-Pass.is) c.solve_balance.ensures).is
+returns-in_err-tested c = (handed_on c.from_residual.ensures.1 (call_fails _ _ _ (sym c.tested.ensures ∙ c.in_err-tested.was))).is
 
-pub returns-in-Fail : goal.returns-in-Fail
+pub returns : goal.returns
 unfolding run_B
-returns-in-Fail c = (call_fails _ _ _ (sym c.tested.ensures ∙ c.in-Fail.is)).is
+returns c = (call_runs _ _ _ (sym c.tested.ensures ∙ c.in_ok-tested.was) c.solve_balance.ensures).is

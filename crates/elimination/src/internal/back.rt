@@ -4,45 +4,41 @@ ghost use Rattle.inputs.specs.Place.{at, cell};
 ghost use Rattle.rows.specs.Sum.{once};
 ghost use Rattle.elimination.specs.Back.{back};
 ghost use Rattle.forward.specs.Code.{Working, Pivots, Ran};
-ghost use Rattle.elimination.specs.Code.{Solved};
+ghost use Rattle.elimination.specs.Code.{unknown};
 
-use forward::internal::Ending;
 use forward::internal::step::place;
 use inputs::internal::read;
 use interval::internal::quotient::quotient;
 use interval::internal::{difference, in_range};
-use outcome::Outcome;
+use outcome::Refusal;
 use rows::internal::row_sum;
 
 // x(i), in the place of f(i), if its numerator and it are in the range.
-fn unknown(n: usize, i: usize, t: &mut [i64]) -> bool
+fn unknown(n: usize, i: usize, t: &mut [i64]) -> Result<(), Refusal>
     requires { Working n t.old × (i < n) × (contains_zero (at t.old (cell n i i)) ≡ false) }
-    ensures { Solved n i t.old result t.new }
+    ensures { Ran (unknown n i t.old) result t.new }
 {
+    let row = i + 1;
     let p = n * n + i;
     let c = i * n + i;
     let s = row_sum(&*t, c + 1, &*t, p + 1, n - (i + 1));
     let f = read(t, p);
     let v = difference(f, s);
-    if in_range(v) {
-        let a = read(t, c);
-        let w = quotient(v, a);
-        return place(t, p, w);
+    if !in_range(v) {
+        return Err(Refusal::OutOfRange(row));
     }
-    false
+    let a = read(t, c);
+    let w = quotient(v, a);
+    place(t, p, w, row)
 }
 
 // Back-substitution.
-pub fn back(n: usize, t: &mut [i64]) -> Ending
+pub fn back(n: usize, t: &mut [i64]) -> Result<(), Refusal>
     requires { Working n t.old × Pivots n t.old }
     ensures { Ran (back once n n t.old) result t.new }
 {
-    let mut i = n;
-    while 0 < i {
-        i -= 1;
-        if !unknown(n, i, t) {
-            return Ending::Stopped(Outcome::OutOfRange(i + 1));
-        }
+    for i in (0..n).rev() {
+        unknown(n, i, t)?;
     }
-    Ending::Finished
+    Ok(())
 }

@@ -1,5 +1,4 @@
-ghost use Rattle.std.specs.Prelude.{◌≡◌, ◌*◌, length};
-ghost use Rattle.inputs.specs.declared.Test.TheVariants.{Pass};
+ghost use Rattle.std.specs.Prelude.{◌≡◌, ◌*◌, length, Ok};
 ghost use Rattle.inputs.specs.System.{system, tests};
 ghost use Rattle.inputs.specs.Code.{Ended};
 ghost use Rattle.rows.specs.Sum.{once};
@@ -10,33 +9,26 @@ ghost use Rattle.elimination.specs.Call.{copied, solved};
 ghost use Rattle.forward.specs.Code.{Working};
 
 use crate::internal::back::back;
-use forward::internal::Ending;
 use forward::internal::formed::formed_rows;
 use forward::internal::forward::forward;
 use inputs::internal::copy::{copy_in, copy_out};
-use outcome::Outcome;
+use outcome::Refusal;
 
 // Eliminates in the working copy and writes the box at the end.
-fn finish(n: usize, t: &mut [i64], bounds: &mut [i64]) -> Outcome
+fn finish(n: usize, t: &mut [i64], bounds: &mut [i64]) -> Result<(), Refusal>
     requires { Working n t.old × (length bounds.old ≡ 2 * n) }
     ensures { Ended (solved lowest_row once n t.old) result bounds.old bounds.new }
 {
     let mut taken = [0i64; 32];
-    let e = forward(n, t, &mut taken);
-    if let Ending::Stopped(o) = e {
-        return o;
-    }
-    let e = back(n, t);
-    if let Ending::Stopped(o) = e {
-        return o;
-    }
+    forward(n, t, &mut taken)?;
+    back(n, t)?;
     copy_out(bounds, t, 2 * (n * n));
-    Outcome::Done
+    Ok(())
 }
 
 // The calculation over A and f.
-pub fn solve(n: usize, a: &[i64], f: &[i64], bounds: &mut [i64]) -> Outcome
-    requires { tests (system n a.now f.now) (length bounds.old) ≡ Pass }
+pub fn solve(n: usize, a: &[i64], f: &[i64], bounds: &mut [i64]) -> Result<(), Refusal>
+    requires { tests (system n a.now f.now) (length bounds.old) ≡ Ok tt }
     ensures { Ended (solved lowest_row once n (copied (system n a.now f.now))) result bounds.old bounds.new }
 {
     let mut t = [0i64; 2112];
@@ -45,20 +37,22 @@ pub fn solve(n: usize, a: &[i64], f: &[i64], bounds: &mut [i64]) -> Outcome
 }
 
 // The calculation over B and b, which stand in the working copy.
-pub fn solve_formed(n: usize, t: &mut [i64], bounds: &mut [i64]) -> Outcome
+pub fn solve_formed(n: usize, t: &mut [i64], bounds: &mut [i64]) -> Result<(), Refusal>
     requires { Working n t.old × (length bounds.old ≡ 2 * n) }
-    ensures { Ended (and_then (formed_rows n n 0 t.entry.now) (λ t. solved lowest_row once n t)) result bounds.old bounds.new }
+    ensures { Ended (and_then (formed_rows n n 0 t.old) (λ t. solved lowest_row once n t)) result bounds.old bounds.new }
 {
-    let e = formed_rows(n, t);
-    if let Ending::Stopped(o) = e {
-        return o;
-    }
+    formed_rows(n, t)?;
     finish(n, t, bounds)
 }
 
 // The calculation over B and b.
-pub fn solve_balance(n: usize, b_matrix: &[i64], b: &[i64], bounds: &mut [i64]) -> Outcome
-    requires { tests (system n b_matrix.now b.now) (length bounds.old) ≡ Pass }
+pub fn solve_balance(
+    n: usize,
+    b_matrix: &[i64],
+    b: &[i64],
+    bounds: &mut [i64],
+) -> Result<(), Refusal>
+    requires { tests (system n b_matrix.now b.now) (length bounds.old) ≡ Ok tt }
     ensures { Ended (and_then (formed_rows n n 0 (copied (system n b_matrix.now b.now))) (λ t. solved lowest_row once n t))
         result bounds.old bounds.new }
 {

@@ -1,98 +1,50 @@
-ghost use Rattle.std.specs.Prelude.{◌≡◌, ◌*◌, ◌≤◌, ◌<◌, length};
-ghost use Rattle.inputs.specs.Tests.{both, proper};
+ghost use Rattle.std.specs.Prelude.{◌≡◌, ◌*◌, ◌≤◌, length};
+ghost use Rattle.outcome.specs.Run.{run_of};
 ghost use Rattle.inputs.specs.System.{system};
-ghost use Rattle.half_rows.specs.Rows.{components, half_along};
-ghost use Rattle.half_rows.specs.Code.{Shaped, half_of, tested_pass, turn};
+ghost use Rattle.inputs.specs.Code.{Sound};
+ghost use Rattle.half_rows.specs.Rows.{worked, components, half_along};
+ghost use Rattle.half_rows.specs.Code.{Boxed, is_back};
 
-use crate::internal::row::{RowStep, step};
-use inputs::Test;
-use inputs::internal::{intervals, write};
+use crate::internal::way::Way;
+use inputs::internal::write;
 use interval::internal::is_empty;
 use kept_sums::internal::write_sum;
+use outcome::Refusal;
 use rows::internal::word::all_above;
 
-// How a half pass ended.
+// What a half pass reads: its way, the system, and the sums that are kept of the side ahead.
 #[derive(Clone, Copy)]
-pub enum Half {
-    NoState,
-    Empty(usize),
-    Whole,
+pub struct HalfPass<'a> {
+    pub n: usize,
+    pub way: Way,
+    pub matrix: &'a [i64],
+    pub right: &'a [i64],
+    pub kept: &'a [i64],
+    pub ghost few: { n ≤ 32 },
+    pub ghost matrix_len: { length matrix.now ≡ 2 * (n * n) },
+    pub ghost right_len: { length right.now ≡ 2 * n },
+    pub ghost kept_len: { length kept.now ≡ 4 * n },
+    pub ghost right_sound: { Sound right.now },
 }
 
-// The component of turn k.
-fn turn(back: bool, n: usize, k: usize) -> usize
-    requires { (k < n) × (n ≤ 32) }
-    ensures { result ≡ turn back n k }
-{
-    if back {
-        return n - (k + 1);
-    }
-    k
-}
-
-// The half pass on x, with the sums that are kept of the side ahead, and those worked out of the side behind.
-pub fn half_pass(
-    n: usize,
-    back: bool,
-    m: &[i64],
-    r: &[i64],
-    kept: &[i64],
-    x: &mut [i64],
-    sums: &mut [i64],
-) -> Half
-    requires { Shaped n r.now kept.now x.old × (length m.now ≡ 2 * (n * n)) × (length sums.old ≡ 4 * n) }
-    ensures { half_of result x.new sums.new ≡
-        half_along back (system n m.now r.now) kept.now (components back n) x.old sums.old }
-{
-    let above = all_above(x, n);
-    for k in 0..n {
-        let i = turn(back, n, k);
-        match step(n, back, above, i, m, r, kept, x) {
-            RowStep::NoState => {
-                return Half::NoState;
+impl HalfPass<'_> {
+    // The half pass on x, with the sums worked out of the side behind.
+    pub fn run(self, x: &mut [i64], sums: &mut [i64]) -> Result<(), Refusal>
+        requires { Boxed self.n x.old × (length sums.old ≡ 4 * self.n) }
+        ensures { run_of result (worked x.new sums.new) ≡
+            half_along (is_back self.entry.way) (system self.entry.n self.entry.matrix.now self.entry.right.now) self.entry.kept.now
+            (components (is_back self.entry.way) self.entry.n) x.old sums.old }
+    {
+        let above = all_above(x, self.n);
+        for k in 0..self.n {
+            let i = self.way.component(self.n, k);
+            let (v, s) = self.step(above, i, x).ok_or(Refusal::NotDue)?;
+            if is_empty(v) {
+                return Err(Refusal::Empty(i + 1));
             }
-            RowStep::Next(v, s) => {
-                if is_empty(v) {
-                    return Half::Empty(i + 1);
-                }
-                write(x, i, v);
-                write_sum(sums, i, s);
-            }
+            write(x, i, v);
+            write_sum(sums, i, s);
         }
+        Ok(())
     }
-    Half::Whole
-}
-
-// Whether box and right side are of intervals.
-fn parts_tested(n: usize, x: &[i64], r: &[i64]) -> Test
-    requires { (n ≤ 32) × (length x.now ≡ 2 * n) × (length r.now ≡ 2 * n) }
-    ensures { result ≡ both (proper x.now n 0 0) (proper r.now n 0 0) }
-{
-    let t = intervals(x, n, 0);
-    if let Test::Fail(o) = t {
-        return Test::Fail(o);
-    }
-    intervals(r, n, 0)
-}
-
-// The half pass, if box and right side are of intervals.
-pub fn tested_pass(
-    n: usize,
-    back: bool,
-    m: &[i64],
-    r: &[i64],
-    kept: &[i64],
-    x: &mut [i64],
-    sums: &mut [i64],
-) -> Half
-    requires n_bound { (n ≤ 32) × (length m.now ≡ 2 * (n * n)) × (length r.now ≡ 2 * n) × (length kept.now ≡ 4 * n) }
-    requires x_len { (length x.old ≡ 2 * n) × (length sums.old ≡ 4 * n) }
-    ensures { half_of result x.new sums.new ≡
-        tested_pass back (system n m.now r.now) kept.now x.old sums.old }
-{
-    let t = parts_tested(n, x, r);
-    if let Test::Fail(_) = t {
-        return Half::NoState;
-    }
-    half_pass(n, back, m, r, kept, x, sums)
 }

@@ -6,9 +6,7 @@ pub fn fill(t: &mut [i64], s: &[i64], at: usize)
     requires { at + length s.now ≤ length t.old }
     ensures { t.new ≡ paste t.old at s.now (length s.now) }
 {
-    for i in 0..s.len() {
-        t[at + i] = s[i];
-    }
+    t[at..at + s.len()].copy_from_slice(s);
 }
 
 // Copies both lent slices to the beginning of t, one after the other.
@@ -26,7 +24,5 @@ pub fn copy_out(x: &mut [i64], t: &[i64], from: usize)
     requires { from + length x.old ≤ length t.now }
     ensures { x.new ≡ take (length x.old) (drop from t.now) }
 {
-    for i in 0..x.len() {
-        x[i] = t[from + i];
-    }
+    x.copy_from_slice(&t[from..from + x.len()]);
 }

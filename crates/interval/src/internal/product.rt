@@ -1,10 +1,9 @@
-ghost use Rattle.std.specs.Prelude.{◌≡◌, true, pos, negsuc, ◌≤ℤ◌};
+ghost use Rattle.std.specs.Prelude.{◌≡◌, true, pos, negsuc, ◌+ℤ◌, ◌-ℤ◌, ◌≤ℤ◌};
 ghost use Rattle.integer.specs.Rounding.{floor_div, ceil_div};
 ghost use Rattle.interval.specs.Interval.{scale, acceptable, exact_product, product};
-ghost use Rattle.interval.specs.Code.{GreatestWith};
+ghost use Rattle.interval.specs.Code.{Bounded, GreatestWith};
 
 use crate::Interval;
-use integer::internal::{max_of, min_of};
 
 // Rounding by the scale is one unsigned division by a constant: BIAS, a multiple of the scale, lifts every product of two ends to 0 or more.
 const SCALE: u64 = Interval::SCALE as u64;
@@ -17,15 +16,24 @@ const ROUND_UP: i64 = Interval::SCALE - 1;
 
 const BIAS_AND_ROUND_UP: i64 = BIAS + ROUND_UP;
 
+// (p + bias) / SCALE rounded down, and the bias taken off again.
+fn biased(p: i64, bias: i64) -> i64
+    requires p_bound { Bounded p }
+    requires bias_bound { (pos 4_000_000_000_000_000_000 ≤ℤ bias) × (bias ≤ℤ pos 4_000_000_000_000_999_999) }
+    ensures { result ≡ floor_div (p +ℤ bias) scale -ℤ pos 4_000_000_000_000 }
+{
+    let n = (p + bias) as u64;
+    let q = (n / SCALE) as i64;
+    q - BIAS_IN_SCALES
+}
+
 // p / SCALE rounded down.
 fn scaled_down(p: i64) -> i64
     requires negsuc_bound { negsuc 3_999_999_999_999_999_999 ≤ℤ p }
     requires p_bound { p ≤ℤ pos 4_000_000_000_000_000_000 }
     ensures { result ≡ floor_div p scale }
 {
-    let n = (p + BIAS) as u64;
-    let q = (n / SCALE) as i64;
-    q - BIAS_IN_SCALES
+    biased(p, BIAS)
 }
 
 // p / SCALE rounded up.
@@ -34,9 +42,7 @@ pub fn scaled_up(p: i64) -> i64
     requires p_bound { p ≤ℤ pos 4_000_000_000_000_000_000 }
     ensures { result ≡ ceil_div p scale }
 {
-    let n = (p + BIAS_AND_ROUND_UP) as u64;
-    let q = (n / SCALE) as i64;
-    q - BIAS_IN_SCALES
+    biased(p, BIAS_AND_ROUND_UP)
 }
 
 // The product of two intervals that are not below 0, unrounded.
@@ -120,9 +126,10 @@ fn across_times(x: Interval, y: Interval) -> Interval
     let b = x.hi;
     let c = y.lo;
     let d = y.hi;
-    let lo = min_of(a * d, b * c);
-    let hi = max_of(a * c, b * d);
-    Interval { lo, hi }
+    Interval {
+        lo: (a * d).min(b * c),
+        hi: (a * c).max(b * d),
+    }
 }
 
 // The least and the greatest of the four products of ends, unrounded. The left operand's signs are looked at first.

@@ -1,68 +1,30 @@
-use mathlib.Core.Path.{◌≡◌, sym, ◌∙◌}
-use native.Mathlib.Omega.{arith}
-use Rattle.inputs.specs.declared.Test.TheVariants.{Pass}
-use Rattle.inputs.specs.Code.{listed}
-use Rattle.report.specs.Call.{room}
-use Rattle.report.proofs.Call.{room_long, settled_reached, spent_reached, not_reached, print_short, print_reached, print_refused}
+use mathlib.Core.Path.{◌≡◌, sym, ap, ◌∙◌}
+use Rattle.std.specs.Prelude.{Ok, Err}
+use Rattle.outcome.specs.Run.{counted}
+use Rattle.outcome.proofs.Run.{carried}
+use Rattle.report.specs.Call.{answer_of, room}
+use Rattle.report.proofs.Call.{room_long, ending_reached, not_reached, print_short, print_reached, print_refused}
 use Rattle.report.proofs.print.Goals as goal
+use Rattle.report.proofs.print.Goals.{In_ok-room}
 
--- the test of the length
-is_room : (c : goal.In-Fail) → c.lengths.result ≡ room c.args.out.now
-unfolding listed
-is_room c = c.lengths.ensures
+roomy : (c : In_ok-room) → room c.args.out.now ≡ Ok tt
+roomy c = sym c.room.ensures ∙ c.in_ok-room.was
 
-is_room_2 : (c : goal.After-put_refusal-arg-1) → c.lengths.result ≡ room c.args.out.now
-unfolding listed
-is_room_2 c = c.lengths.ensures
+pub returns-in_err-room-clause-out_after : goal.returns-in_err-room-clause-out_after
+returns-in_err-room-clause-out_after c =
+    ap (λ r. counted r c.args.out.now) (carried _ _ c.from_residual.ensures.1) ∙ print_short _ _ (sym c.room.ensures ∙ c.in_err-room.was)
 
-is_room_3 : (c : goal.After-slice_known-then-number-ne9-1) → c.lengths.result ≡ room c.args.out.now
-unfolding listed
-is_room_3 c = c.lengths.ensures
+pub hand_out-requires : goal.hand_out-requires
+hand_out-requires c = c.report.auto.out ∙ room_long _ (roomy (goal.at.hand_out-requires c).In_ok-room)
 
-is_room_4 : (c : goal.Else-number-ne9) → c.lengths.result ≡ room c.args.out.now
-unfolding listed
-is_room_4 c = c.lengths.ensures
+pub returns-in-Ok : goal.returns-in-Ok
+returns-in-Ok c =
+    let w = c.in-Ok.w in
+    let q = print_reached _ _ (roomy (goal.at.returns-in-Ok c).In_ok-room) (Ok w.ending) w.count c.report.new.out (ap (λ r. answer_of r c.report.new.out) (sym c.in-Ok.is) ∙ c.report.ensures) (ending_reached w.ending) in
+    record { out_after = q.0; inside = q.1 }
 
-is_room_5 : (c : goal.Else-number-ne0) → c.lengths.result ≡ room c.args.out.now
-unfolding listed
-is_room_5 c = c.lengths.ensures
-
-roomy : (c : goal.After-put_refusal-arg-1) → room c.args.out.now ≡ Pass
-roomy c = sym (is_room_2 c) ∙ c.in_default.is
-
-roomy_2 : (c : goal.After-slice_known-then-number-ne9-1) → room c.args.out.now ≡ Pass
-roomy_2 c = sym (is_room_3 c) ∙ c.in_default.is
-
-roomy_3 : (c : goal.Else-number-ne9) → room c.args.out.now ≡ Pass
-roomy_3 c = sym (is_room_4 c) ∙ c.in_default.is
-
-roomy_4 : (c : goal.Else-number-ne0) → room c.args.out.now ≡ Pass
-roomy_4 c = sym (is_room_5 c) ∙ c.in_default.is
-
--- src/lib.rt:49:9
-pub returns-in-Fail : goal.returns-in-Fail
-returns-in-Fail c =
-    let q = print_short _ _ (sym (is_room c) ∙ c.in-Fail.is) in record { out_after = q.0; inside = q.1 }
-
--- src/lib.rt:57:13
-pub put_refusal-count-requires : goal.put_refusal-count-requires
-put_refusal-count-requires c =
-    omega (arith, c.report-w.auto.out, room_long c.args.out.now (roomy c))
-
--- src/lib.rt:44:1
-pub returns-then-number-ne9 : goal.returns-then-number-ne9
-returns-then-number-ne9 c =
-    let q = print_refused _ _ (roomy_2 c) c.report-w.result.outcome c.report-w.result.count c.report-w.new.out c.report-w.ensures
-    (not_reached c.report-w.result.outcome (λ z. c.if-number-ne0.true (c.number-number.ensures ∙ z)) (λ z. c.if-number-ne9.true (c.number-number.ensures ∙ z)))
-    c.put_refusal-count.ensures in record { out_after = q.0; inside = q.1 }
-
--- src/lib.rt:44:1
-pub returns-else-number-ne9 : goal.returns-else-number-ne9
-returns-else-number-ne9 c =
-    let q = print_reached _ _ (roomy_3 c) c.report-w.result.outcome c.report-w.result.count c.report-w.new.out c.report-w.ensures
-    (spent_reached c.report-w.result.outcome (λ z. c.if-number-ne0.true (c.number-number.ensures ∙ z)) (sym c.number-number.ensures ∙ c.if-number-ne9.false)) in record { out_after = q.0; inside = q.1 }
-
--- src/lib.rt:44:1
-pub returns-else-number-ne0 : goal.returns-else-number-ne0
-returns-else-number-ne0 c =
-    let q = print_reached _ _ (roomy_4 c) c.report-w.result.outcome c.report-w.result.count c.report-w.new.out c.report-w.ensures (settled_reached c.report-w.result.outcome (sym c.number-number.ensures ∙ c.if-number-ne0.false)) in record { out_after = q.0; inside = q.1 }
+pub returns-in-Err : goal.returns-in-Err
+returns-in-Err c =
+    let o = c.in-Err.o in
+    let q = print_refused _ _ (roomy (goal.at.returns-in-Err c).In_ok-room) (Err o) 0 c.report.new.out (ap (λ r. answer_of r c.report.new.out) (sym c.in-Err.is) ∙ c.report.ensures) (not_reached o) c.refused.ensures c.hand_out.ensures.count c.hand_out.ensures.out_after in
+    record { out_after = q.0; inside = q.1 }

@@ -1,72 +1,31 @@
-use mathlib.Core.Path.{◌≡◌, sym, ap, subst, ◌∙◌}
+use mathlib.Core.Path.{◌≡◌, sym, ap, ◌∙◌}
 use native.Mathlib.Omega.{arith}
-use Rattle.text.specs.declared.internal.lines.Reading.TheVariants.{Balance}
-use Rattle.inputs.specs.Code.{listed}
-use Rattle.text.specs.Text.{reading}
-use Rattle.text.specs.Code.{Headed, Fits, reading_is}
+use Rattle.std.specs.Prelude.{Ok}
+use Rattle.outcome.proofs.Run.{carried}
+use Rattle.text.specs.Code.{reading_is}
 use Rattle.text.proofs.Head.{stops}
-use Rattle.report.specs.Call.{room}
+use Rattle.report.specs.Call.{answer_of, room}
 use Rattle.report.proofs.Call.{room_long, report_faulty, report_short, report_solved}
 use Rattle.report.proofs.report.Goals as goal
+use Rattle.report.proofs.report.Goals.{In_ok-room}
 
--- what is known of line 1
-known : (a : goal.After-put_balance-arg-1) → Headed a.args.text.now a.in-Balance.h
-known a = subst (Fits _) a.in-Balance.is a.read_text.ensures.fits
+roomy : (c : In_ok-room) → room c.args.out.now ≡ Ok tt
+roomy c = sym c.room.ensures ∙ c.in_ok-room.was
 
-known_2 : (a : goal.After-t-in-Pass-1) → Headed a.args.text.now a.in-Balance.h
-known_2 a = subst (Fits _) a.in-Balance.is a.read_text.ensures.fits
+pub returns-in_err-h : goal.returns-in_err-h
+returns-in_err-h c =
+    ap (λ r. answer_of r c.args.out.now) (carried _ _ c.from_residual.ensures.1) ∙ report_faulty _ _ (sym c.read_text.ensures.t_after ∙ ap (λ r. reading_is c.args.text.now r c.read_text.new.t) c.in_err-h.was)
 
--- the text was read
-was_read : (a : goal.After-slice_known-in-Pass-1) →
-    let text = a.args.text.now in
-    reading_is text (Balance a.in-Balance.h) a.read_text.new.t ≡ reading text
-was_read a =
-    let r = a.read_text in
-    ap (λ q. reading_is a.args.text.now q r.new.t) (sym a.in-Balance.is) ∙ r.ensures.t_after
+pub returns-in_err-room : goal.returns-in_err-room
+returns-in_err-room c =
+    ap (λ r. answer_of r c.args.out.now) (carried _ _ c.from_residual-in_err-room.ensures.1)
+    ∙ report_short _ _ (sym c.in_ok-h.ensures.t_after) (sym c.room.ensures ∙ c.in_err-room.was)
 
-was_read_2 : (a : goal.In-Fail) →
-    let text = a.args.text.now in
-    reading_is text (Balance a.in-Balance.h) a.read_text.new.t ≡ reading text
-was_read_2 a =
-    let r = a.read_text in
-    ap (λ q. reading_is a.args.text.now q r.new.t) (sym a.in-Balance.is) ∙ r.ensures.t_after
+pub put_balance-requires-clause-in_bounds : goal.put_balance-requires-clause-in_bounds
+put_balance-requires-clause-in_bounds c =
+    let w = c.in_ok-h.ensures.fits in
+    (room_long _ (roomy (goal.at.put_balance-requires-clause-in_bounds c).In_ok-room), omega (arith, stops w, w.short))
 
--- the test of the length
-is_room : (c : goal.After-t-in-Pass-1) → c.lengths.result ≡ room c.args.out.now
-unfolding listed
-is_room c = c.lengths.ensures
-
-is_room_2 : (c : goal.After-slice_known-in-Pass-1) → c.lengths.result ≡ room c.args.out.now
-unfolding listed
-is_room_2 c = c.lengths.ensures
-
-is_room_3 : (c : goal.In-Fail) → c.lengths.result ≡ room c.args.out.now
-unfolding listed
-is_room_3 c = c.lengths.ensures
-
--- src/lib.rt:32:34
-pub slice_bounds-put_balance-end : goal.slice_bounds-put_balance-end
-slice_bounds-put_balance-end c = sym (stops (known c))
-
--- src/lib.rt:32:17
-pub put_balance-requires : goal.put_balance-requires
-put_balance-requires c =
-    let w = known_2 c in
-    record { in_bounds = (omega (arith, room_long c.args.out.now (sym (is_room c) ∙ c.in-Pass.is)), omega (arith, stops w, w.short)); le_n = (w.some, w.few, c.read_text.auto.t) }
-
--- src/lib.rt:23:1
-pub returns-in-Pass : goal.returns-in-Pass
-returns-in-Pass c =
-    c.put_balance.ensures ∙
-    report_solved _ _ (sym (was_read c)) (sym (is_room_2 c) ∙ c.in-Pass.is)
-
--- src/lib.rt:23:1
-pub returns-in-Fail : goal.returns-in-Fail
-returns-in-Fail c =
-    report_short _ _ (sym (was_read_2 c)) (sym (is_room_3 c) ∙ c.in-Fail.is)
-
--- src/lib.rt:23:1
-pub returns-in-Faulty : goal.returns-in-Faulty
-returns-in-Faulty c =
-    let text = c.args.text.now in
-    report_faulty text _ (sym c.read_text.ensures.t_after ∙ ap (λ q. reading_is text q c.read_text.new.t) c.in-Faulty.is)
+pub returns : goal.returns
+returns c =
+    c.put_balance.ensures ∙ report_solved _ _ (sym c.in_ok-h.ensures.t_after) (roomy (goal.at.returns c).In_ok-room)

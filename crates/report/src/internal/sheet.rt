@@ -1,88 +1,108 @@
-ghost use Rattle.std.specs.Prelude.{◌+◌, ◌*◌, ◌≤◌, length};
+// What is printed, piece by piece.
+ghost use Rattle.std.specs.Prelude.{◌≡◌, [], ◌∷◌, ◌++◌, ◌+◌, ◌*◌, ◌≤◌, Err, length, drop};
+ghost use Rattle.arrayvec.specs.ArrayVec.{array_vec_len};
 ghost use Rattle.outcome.specs.Table.{number_and_place};
+ghost use Rattle.text.specs.Call.{over};
 ghost use Rattle.report.specs.Sheet.{bound, bounds, counted, calculated, refusal};
-ghost use Rattle.report.specs.Code.{Put, ending};
+ghost use Rattle.report.specs.Code.{word};
 
-use crate::internal::bytes::{put, put_byte};
-use crate::internal::decimal::{put_decimal, put_natural};
+use arrayvec::ArrayVec;
 use inputs::internal::read;
 use interval::Interval;
-use outcome::Outcome;
+use itoa::{Buffer, Integer};
+use outcome::{Ending, Refusal, number, place};
 
-fn put_bound(out: &mut [u8], at: usize, v: Interval) -> usize
-    requires { at + 41 ≤ length out.old }
-    ensures put { Put out.old at (bound v) out.new result }
-    ensures upper_bound { result ≤ at + 41 }
+// What is printed for one text has room here.
+pub type Sheet = ArrayVec<u8, 2048>;
+
+fn put(sheet: &mut Sheet, s: &[u8])
+    requires { array_vec_len sheet.old + length s.now ≤ 2048 }
+    ensures { sheet.new.items ≡ sheet.old.items ++ s.now }
 {
-    let colon = put_decimal(out, at, v.lo);
-    let upper = put_byte(out, colon, b':');
-    put_decimal(out, upper, v.hi)
+    sheet.try_extend_from_slice(s).unwrap()
 }
 
-// Puts the n bounds of x, each in at most 41 bytes, parted by ';'.
-pub fn put_bounds(out: &mut [u8], at: usize, x: &[i64], n: usize) -> usize
-    requires { (1 ≤ n) × (2 * n ≤ length x.now) × (at + 42 * n ≤ length out.old) }
-    ensures put { Put out.old at (bounds n 0 x.now) out.new result }
-    ensures upper_bound { result ≤ at + 42 * n }
+fn put_number<I: Integer>(sheet: &mut Sheet, n: I)
+    requires { array_vec_len sheet.old + I.MAX_STR_LEN ≤ 2048 }
+    ensures text { sheet.new.items ≡ sheet.old.items ++ I.text n }
+    ensures short { array_vec_len sheet.new ≤ array_vec_len sheet.old + I.MAX_STR_LEN }
 {
-    let mut q = put_bound(out, at, read(x, 0));
+    let mut digits = Buffer::new();
+    put(sheet, digits.format(n).as_bytes());
+}
+
+fn put_bound(sheet: &mut Sheet, v: Interval)
+    requires { array_vec_len sheet.old + 41 ≤ 2048 }
+    ensures text { sheet.new.items ≡ sheet.old.items ++ bound v }
+    ensures short { array_vec_len sheet.new ≤ array_vec_len sheet.old + 41 }
+{
+    put_number(sheet, v.lo);
+    sheet.push(b':');
+    put_number(sheet, v.hi);
+}
+
+// The n bounds of x, each in at most 41 bytes, parted by ';'.
+fn put_bounds(sheet: &mut Sheet, x: &[i64], n: usize)
+    requires { (1 ≤ n) × (2 * n ≤ length x.now) × (array_vec_len sheet.old + 42 * n ≤ 2048) }
+    ensures text { sheet.new.items ≡ sheet.old.items ++ bounds n 0 x.now }
+    ensures short { array_vec_len sheet.new ≤ array_vec_len sheet.old + 42 * n }
+{
+    put_bound(sheet, read(x, 0));
     for p in 1..n {
-        let lower = put_byte(out, q, b';');
-        q = put_bound(out, lower, read(x, p));
+        sheet.push(b';');
+        put_bound(sheet, read(x, p));
     }
-    q
 }
 
-fn put_ending(out: &mut [u8], at: usize, settled: bool) -> usize
-    requires { at + 7 ≤ length out.old }
-    ensures put { Put out.old at (ending settled) out.new result }
-    ensures upper_bound { result ≤ at + 7 }
+// The last line of a calculation.
+fn put_counted(sheet: &mut Sheet, ending: Ending, count: usize)
+    requires { array_vec_len sheet.old + 29 ≤ 2048 }
+    ensures { sheet.new.items ≡ sheet.old.items ++ counted (word ending) count }
 {
-    if settled {
-        return put(out, at, b"settled");
+    match ending {
+        Ending::Done => put(sheet, b"settled"),
+        Ending::Spent => put(sheet, b"spent"),
     }
-    put(out, at, b"spent")
+    sheet.push(b' ');
+    put_number(sheet, count);
+    sheet.push(b'\n');
 }
 
-// Puts the last line of a calculation.
-fn put_counted(out: &mut [u8], at: usize, settled: bool, count: usize) -> usize
-    requires { at + 29 ≤ length out.old }
-    ensures { Put out.old at (counted (ending settled) count) out.new result }
-{
-    let blank = put_ending(out, at, settled);
-    let number = put_byte(out, blank, b' ');
-    let end = put_natural(out, number, count as u64);
-    put_byte(out, end, b'\n')
-}
-
-// Puts the three lines of a calculation at the beginning of out.
-pub fn put_calculated(
-    out: &mut [u8],
-    names: &[u8],
-    n: usize,
-    x: &[i64],
-    settled: bool,
-    count: usize,
-) -> usize
-    requires in_bounds { (2048 ≤ length out.old) × (length names.now ≤ 543) }
+// The three lines of a calculation.
+pub fn calculated(names: &[u8], n: usize, x: &[i64], ending: Ending, count: usize) -> Sheet
+    requires names { length names.now ≤ 543 }
     requires le_n { (1 ≤ n) × (n ≤ 32) × (2 * n ≤ length x.now) }
-    ensures { Put out.old 0 (calculated names.now n x.now (ending settled) count) out.new result }
+    ensures { result.items ≡ calculated names.now n x.now (word ending) count }
 {
-    let end = put(out, 0, names);
-    let second = put_byte(out, end, b'\n');
-    let end = put_bounds(out, second, x, n);
-    let third = put_byte(out, end, b'\n');
-    put_counted(out, third, settled, count)
+    let mut sheet = Sheet::new();
+    put(&mut sheet, names);
+    sheet.push(b'\n');
+    put_bounds(&mut sheet, x, n);
+    sheet.push(b'\n');
+    put_counted(&mut sheet, ending, count);
+    sheet
 }
 
-// Puts the line of a refusal at the beginning of out.
-pub fn put_refusal(out: &mut [u8], o: Outcome) -> usize
-    requires { 50 ≤ length out.old }
-    ensures { Put out.old 0 (refusal (number_and_place o).number (number_and_place o).place) out.new result }
+// The line of a refusal.
+pub fn refused(o: Refusal) -> Sheet
+    ensures { result.items ≡ refusal (number_and_place (Err o)).number (number_and_place (Err o)).place }
 {
-    let number = put(out, 0, b"refused ");
-    let blank = put_natural(out, number, o.number());
-    let place = put_byte(out, blank, b' ');
-    let end = put_natural(out, place, o.place() as u64);
-    put_byte(out, end, b'\n')
+    let mut sheet = Sheet::new();
+    put(&mut sheet, b"refused ");
+    put_number(&mut sheet, number(Err(o)));
+    sheet.push(b' ');
+    put_number(&mut sheet, place(Err(o)));
+    sheet.push(b'\n');
+    sheet
+}
+
+// Copies a sheet to the beginning of out, and answers how many bytes it has.
+pub fn hand_out(sheet: &Sheet, out: &mut [u8]) -> usize
+    requires { length out.old ≡ 2048 }
+    ensures count { result ≡ length sheet.now.items }
+    ensures out_after { out.new ≡ over sheet.now.items out.old }
+{
+    let s = sheet.as_slice();
+    out[..s.len()].copy_from_slice(s);
+    s.len()
 }

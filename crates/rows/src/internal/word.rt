@@ -37,11 +37,5 @@ pub fn all_above(x: &[i64], n: usize) -> bool
     requires { (length x.now ≡ 2 * n) × (n ≤ 32) × Sound x.now }
     ensures { result ≡ true → NoneBelow x.now }
 {
-    for j in 0..n {
-        let v = read(x, j);
-        if v.lo < 0 {
-            return false;
-        }
-    }
-    true
+    (0..n).all(|j| 0 <= read(x, j).lo)
 }

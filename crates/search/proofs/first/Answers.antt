@@ -1,9 +1,8 @@
-use mathlib.Core.Path.{◌≡◌, refl, sym, subst, ◌∙◌}
+use mathlib.Core.Path.{◌≡◌, sym, subst, ◌∙◌}
 use Prim.Native.Nat.{◌+◌, ◌≤◌, ◌<◌}
 use native.Mathlib.Omega.{arith}
-use lib.Count.{trailing_le}
 use lib.ListN.{length}
-use Rattle.search.specs.declared.Found.TheVariants.{At}
+use Rattle.std.specs.Prelude.{Some}
 use Rattle.search.specs.First.{first_from, within}
 use Rattle.search.proofs.Turn.{past}
 use Rattle.search.proofs.Claim.{first_within}
@@ -12,7 +11,7 @@ use Rattle.search.proofs.first.Goals as goal
 
 -- a mark in the word
 hit : (c : goal.Then-m-ne0) → let l = c.before.before.before in let a = l.args in
-    (first_from a.s.now l.loop-i.i a.b ≡ At (l.loop-i.i + before 8 c.marks-m.result)) × (before 8 c.marks-m.result < 8)
+    (first_from a.s.now l.loop-i.i a.b ≡ Some (l.loop-i.i + before 8 c.marks-m.result)) × (before 8 c.marks-m.result < 8)
 hit c =
     let l = c in
     let a = l.args in
@@ -24,32 +23,11 @@ none c = c.if-m-ne0.false
 pub returns-then-s-from : goal.returns-then-s-from
 returns-then-s-from c = let s = c.args in record { value = sym (past s.s.now s.b s.from (omega (arith, c.if-s-from.true))); within = tt }
 
-pub loop-i-init : goal.loop-i-init
-loop-i-init c = (omega arith, omega (arith, c.if-s-from.false), refl)
-
-pub overflow_sub-s : goal.overflow_sub-s
-overflow_sub-s c = c.loop-i.invariant.1
-
-pub marks-m-requires : goal.marks-m-requires
-marks-m-requires c = omega (arith, c.loop-i.invariant.1, c.loop-i-test.true)
-
-pub overflow_cast-result : goal.overflow_cast-result
-overflow_cast-result c = omega (arith, trailing_le 64 c.marks-m.result)
-
-pub overflow_add-result : goal.overflow_add-result
-overflow_add-result c = omega (arith, (hit c).1, c.well_formed.0.0)
-
 pub returns-then-m-ne0 : goal.returns-then-m-ne0
 returns-then-m-ne0 c =
     let l = c in
     let a = l.args in
     record { value = sym (hit c).0 ∙ l.loop-i.invariant.2; within = (omega (arith, l.loop-i.invariant.0), omega (arith, (hit c).1, l.loop-i.invariant.1, c.loop-i-test.true)) }
-
-pub overflow_add-i : goal.overflow_add-i
-overflow_add-i c = omega (arith, c.loop-i-test.true, c.well_formed.0.0)
-
-pub loop-i-smaller : goal.loop-i-smaller
-loop-i-smaller c = omega (arith, c.loop-i-test.true)
 
 pub loop-i-preserved : goal.loop-i-preserved
 loop-i-preserved c =
@@ -62,5 +40,5 @@ pub returns : goal.returns
 returns c =
     let l = c in
     let a = l.args in
-    let e : c.first_by_bytes.result ≡ first_from a.s.now a.from a.b = cc (c.first_by_bytes.ensures.value, l.loop-i.invariant.2) in
+    let e : c.first_by_bytes.result ≡ first_from a.s.now a.from a.b = cc (c.first_by_bytes.ensures, l.loop-i.invariant.2) in
     record { value = e; within = subst (within a.s.now a.from) (sym e) (first_within a.s.now a.b a.from) }

@@ -1,10 +1,9 @@
-ghost use Rattle.std.specs.Prelude.{◌≡◌, true, ◌<◌, pos};
+ghost use Rattle.std.specs.Prelude.{◌≡◌, true};
 ghost use Rattle.interval.specs.Interval.{acceptable};
-ghost use Rattle.start_box.specs.Sums.{magnitude, all_below_one, greatest};
-ghost use Rattle.start_box.specs.Code.{Square, Lines, line_sum};
+ghost use Rattle.start_box.specs.Sums.{magnitude};
+ghost use Rattle.start_box.specs.Ready.{Square, Lines};
 
 use inputs::internal::read;
-use integer::internal::max_of;
 use interval::Interval;
 
 // The magnitude of an interval. Its ends are in sequence, so neither the lower end above 0 nor the upper end below 0 can be the greater one.
@@ -12,49 +11,57 @@ pub fn magnitude(v: Interval) -> i64
     requires { acceptable v ≡ true }
     ensures { result ≡ magnitude v }
 {
-    let a = 0 - v.lo;
-    let b = v.hi;
-    max_of(a, b)
+    (-v.lo).max(v.hi)
 }
 
-// The magnitudes of a row or of a column, summed: those at i * a, i * a + b, and so on.
-pub fn line_sum(n: usize, m: &[i64], a: usize, b: usize, i: usize) -> i64
-    requires { Square n m.now × Lines n a b × (i < n) }
-    ensures { result ≡ line_sum n m.now a b i }
-{
-    let p = i * a;
-    let mut sum: i64 = 0;
-    for k in 0..n {
-        let v = read(m, p + k * b);
-        let z = magnitude(v);
-        sum = sum + z;
-    }
-    sum
+// The sums of the rows or of the columns of a matrix of magnitudes: line i begins at i * stride and goes on in steps of step.
+#[derive(Clone, Copy)]
+pub struct LineSums<'a> {
+    pub n: usize,
+    pub matrix: &'a [i64],
+    pub stride: usize,
+    pub step: usize,
+    ghost square: { Square n matrix.now },
+    ghost lines: { Lines n stride step },
 }
 
-// Whether every such sum is below one.
-pub fn all_below_one(n: usize, m: &[i64], a: usize, b: usize) -> bool
-    requires { Square n m.now × Lines n a b }
-    ensures { result ≡ all_below_one (line_sum n m.now a b) n 0 }
-{
-    for i in 0..n {
-        let s = line_sum(n, m, a, b, i);
-        if Interval::SCALE <= s {
-            return false;
+impl LineSums<'_> {
+    ghost use Rattle.std.specs.Prelude.{◌<◌, pos};
+    ghost use Rattle.start_box.specs.Sums.{all_below_one, greatest};
+    ghost use Rattle.start_box.specs.Code.{sums_of};
+
+    #[tactic(auto, using(crate::proofs::Lines::line_small, crate::proofs::Lines::line_room), unfolding(crate::specs::Code::line_sum, integer::specs::Total::total))]
+    // The sum of one line.
+    pub fn at(&self, i: usize) -> i64
+        requires { i < self.now.n }
+        ensures { result ≡ sums_of self.now i }
+    {
+        let p = i * self.stride;
+        let mut sum: i64 = 0;
+        for k in 0..self.n {
+            let v = read(self.matrix, p + k * self.step);
+            sum += magnitude(v);
         }
+        sum
     }
-    true
-}
 
-// The greatest of them. None is below 0, from which the loop starts.
-pub fn greatest_sum(n: usize, m: &[i64], a: usize, b: usize) -> i64
-    requires { Square n m.now × Lines n a b }
-    ensures { result ≡ greatest (line_sum n m.now a b) n 0 (pos 0) }
-{
-    let mut most: i64 = 0;
-    for i in 0..n {
-        let s = line_sum(n, m, a, b, i);
-        most = max_of(most, s);
+    // Whether every sum is below one.
+    pub fn all_below_one(&self) -> bool
+        ensures { result ≡ all_below_one (sums_of self.now) self.now.n 0 }
+    {
+        (0..self.n).all(|i| self.at(i) < Interval::SCALE)
     }
-    most
+
+    #[tactic(auto, using(crate::proofs::Sums::greatest_end, crate::proofs::Sums::greatest_go, integer::proofs::Extremes::max_is))]
+    // The greatest sum. None is below 0, from which the loop starts.
+    pub fn greatest(&self) -> i64
+        ensures { result ≡ greatest (sums_of self.now) self.now.n 0 (pos 0) }
+    {
+        let mut most: i64 = 0;
+        for i in 0..self.n {
+            let s = self.at(i);
+            most = most.max(s);
+        }
+        most
+    }
 }

@@ -1,109 +1,93 @@
 ghost use Rattle.std.specs.Prelude.{◌≡◌, ◌*◌, ◌≤◌, length};
 ghost use Rattle.outcome.specs.Run.{returned};
-ghost use Rattle.inputs.specs.declared.Test.TheVariants.{Pass};
 ghost use Rattle.inputs.specs.System.{system};
-ghost use Rattle.sweep.specs.Call.{sweeps, tests};
-ghost use Rattle.sweep.specs.Code.{Ready, pass, Logged, Ran, call_over};
+ghost use Rattle.sweep.specs.Call.{sweeps};
+ghost use Rattle.sweep.specs.Code.{pass, Logged, Ran, call_over};
 
 use crate::Swept;
-use crate::internal::pass::{OnePass, pass_once};
+use crate::internal::balance::Balance;
+use crate::internal::pass::{Way, pass_once};
+use crate::internal::square::Square;
 use crate::internal::tests::tested;
-use inputs::Test;
 use inputs::internal::copy::copy_out;
-use outcome::Outcome;
+use outcome::Ending;
 
 // Passes over x until it settles, is found empty, or the sweeps allowed are spent.
-fn repeat(n: usize, halves: usize, m: &[i64], r: &[i64], x: &mut [i64], allowed: usize) -> Swept
-    requires ready { Ready n m.now r.now x.old × (halves ≤ 2) }
-    requires allowed_bound { allowed ≤ 10_000 }
-    ensures { Logged (sweeps n (pass halves (system n m.now r.now)) allowed x.old)
+fn repeat<B: Balance>(balance: &B, way: Way, x: &mut [i64], allowed: usize) -> Swept
+    requires { B.is_ready balance.now x.old }
+    ensures { Logged (sweeps (B.system balance.now).size (pass way (B.system balance.now)) allowed x.old)
         x.old result x.new }
 {
-    let mut count: usize = 0;
-    while count < allowed {
-        match pass_once(n, halves, m, r, x) {
-            OnePass::Empty(i) => {
+    for count in 0..allowed {
+        match pass_once(balance, way, x) {
+            Ok(true) => {}
+            Ok(false) => {
                 return Swept {
-                    outcome: Outcome::Empty(i),
-                    count,
+                    outcome: Ok(Ending::Done),
+                    count: count + 1,
                 };
             }
-            OnePass::Whole(changed) => {
-                count += 1;
-                if !changed {
-                    return Swept {
-                        outcome: Outcome::Done,
-                        count,
-                    };
-                }
+            Err(o) => {
+                return Swept {
+                    outcome: Err(o),
+                    count,
+                };
             }
         }
     }
     Swept {
-        outcome: Outcome::Spent,
-        count,
+        outcome: Ok(Ending::Spent),
+        count: allowed,
     }
 }
 
 // The passes on a copy, x, of the lent box, which is written back unless it was found empty.
-fn tighten(
-    n: usize,
-    halves: usize,
-    m: &[i64],
-    r: &[i64],
+fn tighten<B: Balance>(
+    balance: &B,
+    way: Way,
     x: &mut [i64],
     bounds: &mut [i64],
     allowed: usize,
 ) -> Swept
-    requires bounds_value { tests (system n m.now r.now) allowed bounds.old ≡ Pass }
-    requires x_len { (length x.old ≡ 2 * n) × (halves ≤ 2) }
-    ensures { Ran (sweeps n (pass halves (system n m.now r.now)) allowed bounds.old)
+    requires ready { B.is_ready balance.now bounds.old }
+    requires x_len { length x.old ≡ 2 * (B.system balance.now).size }
+    ensures { Ran (sweeps (B.system balance.now).size (pass way (B.system balance.now)) allowed bounds.old)
         bounds.old result bounds.new }
 {
     copy_out(x, bounds, 0);
-    let s = repeat(n, halves, m, r, x, allowed);
-    let o = s.outcome;
-    if o.number() != 7 {
+    let s = repeat(balance, way, x, allowed);
+    if s.outcome.is_ok() {
         copy_out(bounds, x, 0);
     }
     s
 }
 
 // The passes, after the tests.
-pub fn run(
-    n: usize,
-    halves: usize,
-    m: &[i64],
-    r: &[i64],
-    bounds: &mut [i64],
-    allowed: usize,
-) -> Swept
-    requires bounds_value { tests (system n m.now r.now) allowed bounds.old ≡ Pass }
-    requires halves_bound { halves ≤ 2 }
-    ensures { Ran (sweeps n (pass halves (system n m.now r.now)) allowed bounds.old)
+pub fn run<B: Balance>(balance: &B, way: Way, bounds: &mut [i64], allowed: usize) -> Swept
+    requires { B.is_ready balance.now bounds.old }
+    ensures { Ran (sweeps (B.system balance.now).size (pass way (B.system balance.now)) allowed bounds.old)
         bounds.old result bounds.new }
 {
     let mut x = [0i64; 64];
-    tighten(n, halves, m, r, &mut x[..2 * n], bounds, allowed)
+    tighten(balance, way, &mut x[..2 * balance.size()], bounds, allowed)
 }
 
-// The call, with passes of one half or of both.
+// The call, with passes there alone or there and back.
 pub fn swept(
     n: usize,
-    halves: usize,
-    m: &[i64],
-    r: &[i64],
+    way: Way,
+    matrix: &[i64],
+    right: &[i64],
     bounds: &mut [i64],
     allowed: usize,
 ) -> Swept
-    requires { halves ≤ 2 }
     ensures { returned result.outcome result.count bounds.new ≡
-        call_over halves (system n m.now r.now) allowed bounds.old }
+        call_over way (system n matrix.now right.now) allowed bounds.old }
 {
-    match tested(n, m, r, bounds, allowed) {
-        Test::Pass => run(n, halves, m, r, bounds, allowed),
-        Test::Fail(o) => Swept {
-            outcome: o,
+    match tested(n, matrix, right, bounds, allowed) {
+        Ok(()) => run(&Square { n, matrix, right }, way, bounds, allowed),
+        Err(o) => Swept {
+            outcome: Err(o),
             count: 0,
         },
     }

@@ -1,72 +1,67 @@
-ghost use Rattle.std.specs.Prelude.{◌≡◌, ◌||◌, ◌*◌, ◌≤◌, ◌<◌};
-ghost use Rattle.inputs.specs.System.{system};
+ghost use Rattle.std.specs.Prelude.{◌≡◌, ◌<◌};
 ghost use Rattle.rows.specs.Sum.{once};
-ghost use Rattle.sweep.specs.Pass.{component, differs};
-ghost use Rattle.sweep.specs.Code.{Ready, turn, pass, Passed};
+ghost use Rattle.sweep.specs.Pass.{component};
+ghost use Rattle.sweep.specs.Code.{pass, Passed, Narrowed};
 
+use crate::internal::balance::Balance;
 use inputs::internal::{read, write};
 use interval::Interval;
 use interval::internal::{intersection, is_empty, sum};
-use rows::internal::row_sum;
+use outcome::Refusal;
 
-// How a pass over the box ended: at an empty intersection, or whole, and whether it changed an end.
+// The sequence in which a pass goes over the components: from the first to the last, or back as well.
 #[derive(Clone, Copy)]
-pub enum OnePass {
-    Empty(usize),
-    Whole(bool),
+pub enum Way {
+    There,
+    ThereAndBack,
 }
 
 // The new component i.
-fn component(n: usize, i: usize, m: &[i64], r: &[i64], x: &[i64]) -> Interval
-    requires { Ready n m.now r.now x.now × (i < n) }
-    ensures { result ≡ component once (system n m.now r.now) x.now i }
+fn component<B: Balance>(balance: &B, i: usize, x: &[i64]) -> Interval
+    requires ready { B.is_ready balance.now x.now }
+    requires in_bounds { i < (B.system balance.now).size }
+    ensures { result ≡ component once (B.system balance.now) x.now i }
 {
-    let s = row_sum(m, i * n, x, 0, n);
-    let b = read(r, i);
+    let b = read(balance.right(), i);
+    let s = balance.row_sum(i, x);
     let old = read(x, i);
     let v = sum(b, s);
     intersection(v, old)
 }
 
-// Whether an end was changed before, or an end of the new interval differs from the old one's.
-pub fn moved(earlier: bool, old: Interval, new: Interval) -> bool
-    ensures { result ≡ (earlier || differs old new) }
+// Narrows component i of x: whether that changed an end, or where it found nothing left.
+fn narrow<B: Balance>(balance: &B, i: usize, x: &mut [i64]) -> Result<bool, Refusal>
+    requires ready { B.is_ready balance.now x.old }
+    requires in_bounds { i < (B.system balance.now).size }
+    ensures { Narrowed (B.system balance.now) i x.old result x.new }
 {
-    if earlier {
-        return true;
+    let v = component(balance, i, x);
+    if is_empty(v) {
+        return Err(Refusal::Empty(i + 1));
     }
-    if old.lo != new.lo {
-        return true;
-    }
-    old.hi != new.hi
+    let old = read(x, i);
+    write(x, i, v);
+    Ok(old != v)
 }
 
-// The component of turn k: upward in the first n turns, downward in the next n.
-pub fn turn(n: usize, k: usize) -> usize
-    requires { (n ≤ 32) × (k < 2 * n) }
-    ensures { result ≡ turn n k }
+// The same of a whole pass over x.
+pub fn pass_once<B: Balance>(balance: &B, way: Way, x: &mut [i64]) -> Result<bool, Refusal>
+    requires { B.is_ready balance.now x.old }
+    ensures passed { Passed (pass way (B.system balance.now) x.old) (B.system balance.now).size x.old result x.new }
+    ensures ready { B.is_ready balance.now x.new }
 {
-    if n <= k {
-        return 2 * n - (k + 1);
-    }
-    k
-}
-
-// One pass over x, of one half or of both.
-pub fn pass_once(n: usize, halves: usize, m: &[i64], r: &[i64], x: &mut [i64]) -> OnePass
-    requires { Ready n m.now r.now x.old × (halves ≤ 2) }
-    ensures { Passed (pass halves (system n m.now r.now) x.old) n x.old result x.new }
-{
+    let n = balance.size();
     let mut changed = false;
-    for k in 0..halves * n {
-        let i = turn(n, k);
-        let v = component(n, i, m, r, x);
-        if is_empty(v) {
-            return OnePass::Empty(i + 1);
-        }
-        let old = read(x, i);
-        changed = moved(changed, old, v);
-        write(x, i, v);
+    for i in 0..n {
+        changed |= narrow(balance, i, x)?;
     }
-    OnePass::Whole(changed)
+    match way {
+        Way::There => Ok(changed),
+        Way::ThereAndBack => {
+            for i in (0..n).rev() {
+                changed |= narrow(balance, i, x)?;
+            }
+            Ok(changed)
+        }
+    }
 }

@@ -1,17 +1,15 @@
-use mathlib.Core.Path.{subst}
+use mathlib.Core.Path.{ap, ◌∙◌}
+use Rattle.outcome.specs.Run.{counted}
+use Rattle.outcome.proofs.Run.{carried}
 use Rattle.text.specs.Call.{lent}
-use Rattle.text.specs.Code.{Fits}
 use Rattle.text.proofs.Handed.{read_handed, read_faulty}
 use Rattle.text.proofs.read.Goals as goal
 
-pub hand_out-requires : goal.hand_out-requires
-hand_out-requires c =
-    ((subst (Fits _) c.in-Balance.is c.read_text.ensures.fits).few, c.read_text.auto.t)
+pub returns-in_err-h : goal.returns-in_err-h
+returns-in_err-h c =
+    let l = lent c.args.matrix.now c.args.right.now in
+    ap (λ r. counted r l) (carried _ _ c.from_residual.ensures.1) ∙ read_faulty _ _ l c.read_text.ensures.t_after c.in_err-h.was
 
-pub returns-in-Balance : goal.returns-in-Balance
-returns-in-Balance c =
-    read_handed _ _ (lent c.args.matrix.now c.args.right.now) c.read_text.ensures.t_after c.in-Balance.is c.hand_out.ensures
-
-pub returns-in-Faulty : goal.returns-in-Faulty
-returns-in-Faulty c =
-    read_faulty _ _ _ c.read_text.ensures.t_after c.in-Faulty.is
+pub returns : goal.returns
+returns c =
+    read_handed _ _ (lent c.args.matrix.now c.args.right.now) c.read_text.ensures.t_after c.in_ok-h.was c.hand_out.ensures

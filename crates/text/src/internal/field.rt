@@ -1,7 +1,7 @@
 ghost use Rattle.std.specs.Prelude.{◌≡◌, ◌+◌, ◌≤◌, ◌<◌, length, drop};
 ghost use Rattle.text.specs.Parts.{fields, part, start_of};
 
-use search::{Found, first};
+use search::first;
 
 // Where the part with the number k, from 0, starts in a line.
 pub fn start_of(line: &[u8], k: usize) -> usize
@@ -10,15 +10,8 @@ pub fn start_of(line: &[u8], k: usize) -> usize
     ensures line_value { part (fields (drop result line.now)) 0 ≡ part (fields line.now) k }
 {
     let mut at = 0;
-    for i in 0..k {
-        match first(line, at, b';') {
-            Found::At(e) => {
-                at = e + 1;
-            }
-            Found::Nothing => {
-                return at;
-            }
-        }
+    for _i in 0..k {
+        at = first(line, at, b';').unwrap() + 1;
     }
     at
 }
@@ -28,8 +21,5 @@ pub fn stop_from(line: &[u8], at: usize) -> usize
     requires { at ≤ length line.now }
     ensures { (result ≡ at + length (part (fields (drop at line.now)) 0)) × (result ≤ length line.now) }
 {
-    match first(line, at, b';') {
-        Found::At(e) => e,
-        Found::Nothing => line.len(),
-    }
+    first(line, at, b';').unwrap_or(line.len())
 }

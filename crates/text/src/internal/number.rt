@@ -1,93 +1,46 @@
-ghost use Rattle.std.specs.Prelude.{◌≡◌, ◌≤◌, length};
-ghost use Rattle.text.specs.Number.{is_digit, digits, magnitude, number, below};
-ghost use Rattle.text.specs.Code.{magnitude_of, short, number_of};
-
-// What bytes are as digits: their number, or none.
-#[derive(Clone, Copy)]
-pub enum Magnitude {
-    Digits(u64),
-    Other,
-}
-
-// What bytes are as a number of the text.
-#[derive(Clone, Copy)]
-pub enum Number {
-    Units(i64),
-    Malformed,
-}
-
-fn is_digit(b: u8) -> bool
-    ensures { result ≡ is_digit b }
-{
-    if b < b'0' {
-        return false;
-    }
-    b <= b'9'
-}
+ghost use Rattle.std.specs.Prelude.{◌≡◌, ◌≤◌, length, IfSome};
+ghost use Rattle.text.specs.Number.{digits, magnitude, number};
 
 // The number of at most ten digits.
-fn all_digits(s: &[u8]) -> Magnitude
+fn all_digits(s: &[u8]) -> Option<u64>
     requires { length s.now ≤ 10 }
-    ensures result_value { magnitude_of result ≡ digits s.now 0 }
-    ensures short { short result }
+    ensures value { result ≡ digits s.now 0 }
+    ensures short { IfSome result (λ m. m ≤ 9_999_999_999) }
 {
-    let mut v: u64 = 0;
-    for i in 0..s.len() {
-        let b = s[i];
-        if !is_digit(b) {
-            return Magnitude::Other;
+    let mut v = 0;
+    for &b in s {
+        if !b.is_ascii_digit() {
+            return None;
         }
         v = v * 10 + (b - b'0') as u64;
     }
-    Magnitude::Digits(v)
+    Some(v)
 }
 
 // 1 to 10 digits, no needless leading zero.
-fn unsigned(s: &[u8]) -> Magnitude
-    ensures result_value { magnitude_of result ≡ magnitude s.now }
-    ensures short { short result }
+fn unsigned(s: &[u8]) -> Option<u64>
+    ensures value { result ≡ magnitude s.now }
+    ensures short { IfSome result (λ m. m ≤ 9_999_999_999) }
 {
-    if s.len() < 1 {
-        return Magnitude::Other;
+    if s.len() < 1 || s.len() > 10 {
+        return None;
     }
-    if s.len() > 10 {
-        return Magnitude::Other;
-    }
-    if s[0] == b'0' {
-        if s.len() != 1 {
-            return Magnitude::Other;
-        }
-        return Magnitude::Digits(0);
+    if s[0] == b'0' && s.len() != 1 {
+        return None;
     }
     all_digits(s)
 }
 
-// A number of the text: digits, with a '-' before them if it is below nought.
-pub fn number_of(s: &[u8]) -> Number
-    ensures { number_of result ≡ number s.now }
+// A number of the text: digits, with a '-' before them if it is below nought; '-0' is none.
+pub fn number_of(s: &[u8]) -> Option<i64>
+    ensures { result ≡ number s.now }
 {
-    if s.len() < 1 {
-        return Number::Malformed;
+    let (&first, rest) = s.split_first()?;
+    if first != b'-' {
+        return Some(unsigned(s)? as i64);
     }
-    if s[0] == b'-' {
-        return match unsigned(&s[1..]) {
-            Magnitude::Digits(m) => negative(m),
-            Magnitude::Other => Number::Malformed,
-        };
+    match unsigned(rest)? {
+        0 => None,
+        m => Some(-(m as i64)),
     }
-    match unsigned(s) {
-        Magnitude::Digits(m) => Number::Units(m as i64),
-        Magnitude::Other => Number::Malformed,
-    }
-}
-
-// Below nought: '-0' is none.
-fn negative(m: u64) -> Number
-    requires { m ≤ 9_999_999_999 }
-    ensures { number_of result ≡ below m }
-{
-    if m == 0 {
-        return Number::Malformed;
-    }
-    Number::Units(-(m as i64))
 }

@@ -1,84 +1,47 @@
-ghost use Rattle.std.specs.Prelude.{◌≡◌, ◌+◌, ◌*◌, ◌≤◌, length, take};
-ghost use Rattle.std.proofs.Math.Option.{some};
+ghost use Rattle.std.specs.Prelude.{◌≡◌, Some, ◌+◌, ◌*◌, ◌≤◌, length, take, option_map};
 ghost use Rattle.text.specs.Parts.{fields};
 ghost use Rattle.text.specs.Number.{value, then, values};
-ghost use Rattle.text.specs.Code.{number_of, pair, value_of, only_if};
+ghost use Rattle.text.specs.Code.{both, only_if};
 
-use crate::internal::number::{Number, number_of};
+use crate::internal::number::number_of;
 use inputs::internal::write;
 use interval::Interval;
-use search::{Found, first};
-
-// What a field is as a value of the text.
-#[derive(Clone, Copy)]
-pub enum Value {
-    Bounds(Interval),
-    Other,
-}
-
-fn both_ends(lower: Number, upper: Number) -> Value
-    ensures { value_of result ≡ pair (number_of lower) (number_of upper) }
-{
-    match lower {
-        Number::Units(lo) => match upper {
-            Number::Units(hi) => Value::Bounds(Interval { lo, hi }),
-            Number::Malformed => Value::Other,
-        },
-        Number::Malformed => Value::Other,
-    }
-}
+use search::first;
 
 // lower ':' upper
-fn value_of(field: &[u8]) -> Value
-    ensures { value_of result ≡ value field.now }
+fn value_of(field: &[u8]) -> Option<Interval>
+    ensures { option_map both result ≡ value field.now }
 {
-    match first(field, 0, b':') {
-        Found::At(c) => {
-            let lower = number_of(&field[..c]);
-            let upper = number_of(&field[c + 1..]);
-            both_ends(lower, upper)
-        }
-        Found::Nothing => Value::Other,
-    }
+    let colon = first(field, 0, b':')?;
+    let lo = number_of(&field[..colon])?;
+    let hi = number_of(&field[colon + 1..])?;
+    Some(Interval { lo, hi })
 }
 
-// Reads a value to position p of t; false if the field is none.
-fn place_value(field: &[u8], t: &mut [i64], p: usize) -> bool
+// Reads a value to position p of t.
+fn place_value(field: &[u8], t: &mut [i64], p: usize) -> Option<()>
     requires { 2 * (p + 1) ≤ length t.old }
     ensures { only_if result (take (2 * (p + 1)) t.new)
-        ≡ then (some (take (2 * p) t.old)) (value field.now) }
+        ≡ then (Some (take (2 * p) t.old)) (value field.now) }
 {
-    match value_of(field) {
-        Value::Bounds(v) => {
-            write(t, p, v);
-            true
-        }
-        Value::Other => false,
-    }
+    write(t, p, value_of(field)?);
+    Some(())
 }
 
-// Reads a line of n values to position p of t and on; false if the line is not one.
-pub fn read_values(line: &[u8], n: usize, t: &mut [i64], p: usize) -> bool
+// Reads a line of n values to position p of t and on.
+pub fn read_values(line: &[u8], n: usize, t: &mut [i64], p: usize) -> Option<()>
     requires { (1 ≤ n) × (2 * (p + n) ≤ length t.old) }
     ensures { only_if result (take (2 * (p + n)) t.new)
-        ≡ then (some (take (2 * p) t.old)) (values n (fields line.now)) }
+        ≡ then (Some (take (2 * p) t.old)) (values n (fields line.now)) }
 {
     let mut at = 0;
     for i in 0..n - 1 {
-        match first(line, at, b';') {
-            Found::At(e) => {
-                if !place_value(&line[at..e], t, p + i) {
-                    return false;
-                }
-                at = e + 1;
-            }
-            Found::Nothing => {
-                return false;
-            }
-        }
+        let stop = first(line, at, b';')?;
+        place_value(&line[at..stop], t, p + i)?;
+        at = stop + 1;
     }
-    match first(line, at, b';') {
-        Found::At(_) => false,
-        Found::Nothing => place_value(&line[at..], t, p + (n - 1)),
+    if first(line, at, b';').is_some() {
+        return None;
     }
+    place_value(&line[at..], t, p + (n - 1))
 }

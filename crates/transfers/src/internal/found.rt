@@ -1,188 +1,114 @@
 // Where the rows of a list end: found once, with all tests of the records.
-ghost use Rattle.std.specs.Prelude.{◌≡◌, true, false, ◌+◌, ◌≤◌, ◌<◌, pos, nat_abs, length, get_or, ◌≤ℤ◌};
-ghost use Rattle.interval.specs.Interval.{in_range};
+ghost use Rattle.std.specs.Prelude.{◌≡◌, true, ◌+◌, ◌≤◌, ◌<◌, pos, length, get_or, ◌≤ℤ◌};
 ghost use Rattle.transfers.specs.Listing.{transfers_of};
-ghost use Rattle.transfers.specs.Rows.{hull, InRange, Short, Later, RowEnd, AllRows, Told};
+ghost use Rattle.transfers.specs.Rows.{hull, Short, Later, RowFound, AllRows, Told};
 
 use crate::Transfer;
 use crate::internal::tests::{judged, record, share};
-use inputs::Test;
-use integer::internal::{max_of, min_of};
 use interval::Interval;
 use interval::internal::in_range;
-use outcome::Outcome;
+use outcome::Refusal;
 
-// What a row ends with: the place after its last record, which is past the list if one of them fails a test; the columns that it has passed; a hull of all shares so far.
-#[derive(Clone, Copy)]
+// A row that was found: the place after its last record, the columns that it has passed, and a hull of all shares so far.
+#[derive(Clone, Copy, Debug, PartialEq, Eq)]
 pub struct Row {
     pub end: usize,
     pub columns: usize,
     pub hull: Interval,
 }
 
-// Whether a list stands in rows, and a hull of its shares.
-#[derive(Clone, Copy)]
-pub struct Found {
-    pub whole: bool,
-    pub hull: Interval,
-}
-
-// Whether v is the number of row i.
-fn is_row(i: usize, v: i64) -> bool
+// Whether a record is of row i.
+fn is_in_row(i: usize, t: Transfer) -> bool
     requires { i < 32 }
-    ensures { (result ≡ true → v ≡ pos (i + 1)) × (v ≡ pos (i + 1) → result ≡ true) }
+    ensures { (result ≡ true → t.receiver ≡ pos (i + 1)) × (t.receiver ≡ pos (i + 1) → result ≡ true) }
 {
-    v == i as i64 + 1
-}
-
-// Whether v is a number above the first ones, so many.
-fn is_later(first: usize, v: i64) -> bool
-    requires { first ≤ 9_223_372_036_854_775_807 }
-    ensures { (result ≡ true → Later first v) × (Later first v → result ≡ true) }
-{
-    let last = first as i64;
-    last < v
+    t.receiver == i as i64 + 1
 }
 
 // Whether a record can be the next one of a row that has passed so many columns.
+#[tactic(auto, using(crate::proofs::Component::later, crate::proofs::Component::later_tested))]
 fn goes_on(columns: usize, t: Transfer) -> bool
     requires { columns ≤ 9_223_372_036_854_775_807 }
     ensures { (result ≡ true → Later columns t.giver × (t.lo ≤ℤ t.hi)) × (Later columns t.giver → t.lo ≤ℤ t.hi → result ≡ true) }
 {
-    if !is_later(columns, t.giver) {
-        return false;
-    }
-    t.lo <= t.hi
-}
-
-// The number of a component that is above 0.
-fn unsigned(v: i64) -> usize
-    requires { v ≡ pos (nat_abs v) }
-    ensures { result ≡ nat_abs v }
-{
-    v as usize
+    (columns as i64) < t.giver && t.lo <= t.hi
 }
 
 // The least interval that holds both.
+#[tactic(auto, unfolding(crate::specs::Rows::hull, integer::specs::Extremes::minimum, integer::specs::Extremes::maximum))]
 fn hull(h: Interval, v: Interval) -> Interval
     ensures { result ≡ hull h v }
 {
-    let lo = min_of(h.lo, v.lo);
-    let hi = max_of(h.hi, v.hi);
-    Interval { lo, hi }
+    Interval {
+        lo: h.lo.min(v.lo),
+        hi: h.hi.max(v.hi),
+    }
 }
 
 // The records of row i, which begin at from, after shares with the hull held. The last column and the hull are left to be tested once, after all records.
-fn row_end(n: usize, rs: &[[i64; 4]], i: usize, from: usize, held: Interval) -> Row
-    requires { (n ≤ 32) × (length rs.now ≤ 1_024) × (i < n) × (from ≤ length rs.now) }
-    ensures { RowEnd n (transfers_of rs.now) i held from result }
+fn row_end(n: usize, rs: &[[i64; 4]], i: usize, from: usize, held: Interval) -> Option<Row>
+    requires { (n ≤ 32) × (i < n) × (from ≤ length rs.now) }
+    ensures { RowFound n (transfers_of rs.now) i held from result }
 {
-    let mut columns: usize = 0;
-    let mut all = held;
+    let mut row = Row {
+        end: from,
+        columns: 0,
+        hull: held,
+    };
     for k in from..rs.len() {
         let t = record(rs, k);
-        if !is_row(i, t.receiver) {
-            return Row {
-                end: k,
-                columns,
-                hull: all,
-            };
+        if !is_in_row(i, t) {
+            return Some(row);
         }
-        if !goes_on(columns, t) {
-            return Row {
-                end: rs.len() + 1,
-                columns,
-                hull: all,
-            };
+        if !goes_on(row.columns, t) {
+            return None;
         }
-        let v = share(t);
-        columns = unsigned(t.giver);
-        all = hull(all, v);
+        row = Row {
+            end: k + 1,
+            columns: t.giver as usize,
+            hull: hull(row.hull, share(t)),
+        };
     }
-    Row {
-        end: rs.len(),
-        columns,
-        hull: all,
-    }
+    Some(row)
 }
 
-// Whether a row passes all tests of a list of so many records.
-fn is_good(n: usize, count: usize, r: Row) -> bool
-    ensures { (result ≡ true → (r.end ≤ count) × (r.columns ≤ n) × InRange r.hull) × (r.end ≤ count → r.columns ≤ n → in_range r.hull ≡ true → result ≡ true) }
-{
-    if count < r.end {
-        return false;
-    }
-    if n < r.columns {
-        return false;
-    }
-    in_range(r.hull)
-}
-
-// Found of a list that does not stand in rows.
-fn not_whole() -> Found
-    ensures { result.whole ≡ false }
-{
-    Found {
-        whole: false,
-        hull: Interval::ZERO,
-    }
-}
-
-// Where the rows end, one after the other; row i begins where the row before it ends. Not whole, if a record fails a test.
-fn find_rows(n: usize, rs: &[[i64; 4]], ends: &mut [usize]) -> Found
-    requires { (n ≤ 32) × (length rs.now ≤ 1_024) × (length ends.old ≡ 33) × (get_or ends.old 0 0 ≡ 0) }
+// Where the rows end, one after the other; row i begins where the row before it ends. A hull of the shares, unless a record fails a test.
+fn find_rows(n: usize, rs: &[[i64; 4]], ends: &mut [usize]) -> Option<Interval>
+    requires { (n ≤ 32) × (length ends.old ≡ 33) × (get_or ends.old 0 0 ≡ 0) }
     ensures { AllRows n (transfers_of rs.now) ends.new result }
 {
-    let mut from: usize = 0;
+    let mut from = 0;
     let mut all = Interval::ZERO;
     for i in 0..n {
-        let r = row_end(n, rs, i, from, all);
-        if !is_good(n, rs.len(), r) {
-            return not_whole();
+        let r = row_end(n, rs, i, from, all)?;
+        if n < r.columns || !in_range(r.hull) {
+            return None;
         }
         from = r.end;
         all = r.hull;
         ends[i + 1] = from;
     }
     if from < rs.len() {
-        return not_whole();
+        return None;
     }
-    Found {
-        whole: true,
-        hull: all,
-    }
+    Some(all)
 }
 
-// What the tests of the records say: the list stands in rows, with this hull of its shares; or the outcome of the first test that fails.
-#[derive(Clone, Copy)]
-pub enum Tried {
-    Rows(Interval),
-    Fail(Outcome),
-}
-
-// All tests of the records. A list that does not stand in rows fails one, so they are tried one after the other: that all pass does not happen.
-pub fn tried_rows(n: usize, rs: &[[i64; 4]], ends: &mut [usize]) -> Tried
-    requires { (n ≤ 32) × (length rs.now ≤ 1_024) × (length ends.old ≡ 33) × (get_or ends.old 0 0 ≡ 0) }
+// All tests of the records: the list stands in rows, with this hull of its shares, or one of the tests fails. They are tried one after the other only then.
+pub fn tried_rows(n: usize, rs: &[[i64; 4]], ends: &mut [usize]) -> Result<Interval, Refusal>
+    requires { (n ≤ 32) × (length ends.old ≡ 33) × (get_or ends.old 0 0 ≡ 0) }
     ensures { Told n (transfers_of rs.now) ends.new result }
 {
-    let f = find_rows(n, rs, ends);
-    let h = f.hull;
-    if f.whole {
-        return Tried::Rows(h);
-    }
-    match judged(n, rs) {
-        Test::Pass => Tried::Rows(h),
-        Test::Fail(o) => Tried::Fail(o),
+    match find_rows(n, rs, ends) {
+        Some(h) => Ok(h),
+        None => Err(judged(n, rs).unwrap_err()),
     }
 }
 
 // Whether shares with this hull can be summed in one word.
+#[tactic(auto, using(crate::proofs::Short::short_is))]
 pub fn is_short(h: Interval) -> bool
     ensures { result ≡ true → Short h }
 {
-    if h.lo < -134_217_728 {
-        return false;
-    }
-    h.hi <= 134_217_728
+    -134_217_728 <= h.lo && h.hi <= 134_217_728
 }

@@ -1,75 +1,62 @@
-// From the lent list of structs to records of four numbers.
-ghost use Rattle.std.specs.Prelude.{◌≡◌, ◌++◌, ◌<◌, ◌≤◌, min, length, take, drop, set};
-ghost use denote.Ref.{at_last};
-ghost use Rattle.transfers.specs.Listing.{nth};
-ghost use Rattle.transfers.specs.Code.{numbers_of, records_of, room, gathered};
+// From the lent list of structs to records of four numbers, for which there is so much room.
+ghost use Rattle.std.specs.Prelude.{◌≡◌, ◌++◌, ◌<◌, ◌≤◌, length, take, drop, Err, IsOk, IfErr};
+ghost use Rattle.outcome.specs.declared.Refusal.TheVariants.{Length};
+ghost use Rattle.outcome.specs.Run.{returned};
+ghost use Rattle.inputs.specs.Tests.{both, sized};
+ghost use Rattle.transfers.specs.Listing.{listing};
+ghost use Rattle.transfers.specs.Call.{call_list};
+ghost use Rattle.transfers.specs.Code.{records_of, of_way};
 
 use crate::Transfer;
+use crate::internal::calls::swept_records;
+use inputs::internal::size;
+use outcome::Refusal;
+use sweep::Swept;
+use sweep::internal::pass::Way;
 
-// The record at k.
-pub fn record_at(ts: &[Transfer], k: usize) -> Transfer
-    requires { k < length ts.now }
-    ensures { result ≡ nth ts.now k }
+// A list that is too long for them is refused before it is read: 1, or else 2 with place 1.
+#[tactic(auto, unfolding(inputs::specs::Tests::both))]
+pub fn few_enough(n: usize, count: usize) -> Result<(), Refusal>
+    ensures ok { IsOk result → count ≤ 1_024 }
+    ensures long { IfErr result (λ o. (1_024 < count) × (Err o ≡ both (sized n) (Err (Length 1)))) }
 {
-    ts[k]
-}
-
-// The numbers of t stand at k.
-fn write_record(rs: &mut [[i64; 4]], k: usize, t: Transfer)
-    requires { k < length rs.old }
-    ensures { rs.new ≡ set rs.old k (numbers_of t) }
-{
-    let receiver = t.receiver;
-    let giver = t.giver;
-    let lo = t.lo;
-    let hi = t.hi;
-    rs[k] = [receiver, giver, lo, hi];
-}
-
-// The same, and the list is handed on.
-pub fn put_record<'a>(rs: &'a mut [[i64; 4]], k: usize, t: Transfer) -> &'a mut [[i64; 4]]
-    requires { k < length rs.old }
-    ensures { result ≡ at_last rs.entry (set rs.old k (numbers_of t)) }
-{
-    write_record(rs, k, t);
-    rs
+    if 1024 < count {
+        size(n)?;
+        return Err(Refusal::Length(1));
+    }
+    Ok(())
 }
 
 // The first n records, one after the other.
+#[tactic(auto, using(crate::proofs::Gathered::put_more), unfolding(crate::specs::Code::records_of))]
 pub fn gather(ts: &[Transfer], n: usize, rs: &mut [[i64; 4]])
     requires { (n ≤ length ts.now) × (n ≤ length rs.old) }
     ensures { rs.new ≡ records_of (take n ts.now) ++ drop n rs.old }
 {
-    let mut k: usize = 0;
-    while k < n {
-        let t = record_at(ts, k);
-        write_record(rs, k, t);
-        k += 1;
+    for (k, t) in ts[..n].iter().enumerate() {
+        rs[k] = (*t).into();
     }
 }
 
-// How many of so many records are read.
-pub fn at_most(count: usize) -> usize
-    ensures { (result ≤ count) × (result ≤ 1_024) × (result ≡ min 1_024 count) }
+// Sweeps from a list and b.
+pub fn swept(
+    n: usize,
+    way: Way,
+    ts: &[Transfer],
+    b: &[i64],
+    bounds: &mut [i64],
+    allowed: usize,
+) -> Swept
+    ensures { returned result.outcome result.count bounds.new ≡
+        call_list (listing n ts.now b.now) (of_way way allowed) bounds.old }
 {
-    if count <= 1024 {
-        return count;
+    if let Err(o) = few_enough(n, ts.len()) {
+        return Swept {
+            outcome: Err(o),
+            count: 0,
+        };
     }
-    1024
-}
-
-pub fn room() -> [[i64; 4]; 1024]
-    ensures { result ≡ room }
-{
-    [[0i64; 4]; 1024]
-}
-
-// The records' numbers; those past the first 1,024 are left out.
-pub fn gathered(ts: &[Transfer]) -> [[i64; 4]; 1024]
-    ensures { result ≡ gathered ts.now }
-{
-    let mut values = room();
-    let n = at_most(ts.len());
-    gather(ts, n, &mut values);
-    values
+    let mut values = [[0i64; 4]; 1024];
+    gather(ts, ts.len(), &mut values);
+    swept_records(n, way, &values[..ts.len()], b, bounds, allowed)
 }

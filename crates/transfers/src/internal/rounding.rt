@@ -8,11 +8,11 @@ ghost use Rattle.wide_sum.specs.Code.{NearBoth};
 use integer::internal::{ceil_div, floor_div};
 use interval::Interval;
 use wide_sum::WideInterval;
-use wide_sum::internal::rounding::rounded as rounded_wide;
 
 const SCALE: u64 = Interval::SCALE as u64;
 
 // From one word.
+#[tactic(auto, unfolding(interval::specs::Interval::rounded, interval::specs::Interval::scale))]
 pub fn rounded(v: Interval) -> Interval
     ensures { result ≡ rounded scale v }
 {
@@ -22,35 +22,32 @@ pub fn rounded(v: Interval) -> Interval
 }
 
 // A number that is not below 0, rounded down and up.
+#[tactic(auto, using(crate::proofs::Rounding::floor_read))]
 fn floor(p: u64) -> i64
     ensures { result ≡ floor_div (pos p) scale }
 {
     (p / SCALE) as i64
 }
 
+#[tactic(auto, using(crate::proofs::Rounding::ceil_read))]
 fn ceiling(p: u64) -> i64
     ensures { result ≡ ceil_div (pos p) scale }
 {
-    let q = (p / SCALE) as i64;
-    if 0 < p % SCALE {
-        return q + 1;
-    }
-    q
+    p.div_ceil(SCALE) as i64
 }
 
 // From two words. Where the high ones are 0 the low ones are enough, and take less time.
+#[tactic(auto, using(crate::proofs::Rounding::low_alone), unfolding(interval::specs::Interval::rounded, wide_sum::specs::Wide::held_both))]
 pub fn rounded_from_two(w: WideInterval) -> Interval
     requires { NearBoth 1_000 w }
     ensures { result ≡ rounded scale (held_both w) }
 {
     let a = w.lo;
     let b = w.hi;
-    if a.high == 0 {
-        if b.high == 0 {
-            let lo = floor(a.low);
-            let hi = ceiling(b.low);
-            return Interval { lo, hi };
-        }
+    if a.high == 0 && b.high == 0 {
+        let lo = floor(a.low);
+        let hi = ceiling(b.low);
+        return Interval { lo, hi };
     }
-    rounded_wide(w)
+    w.rounded()
 }

@@ -4,21 +4,22 @@ ghost use Rattle.transfers.specs.Listing.{is_component, both_components, place_o
 ghost use Rattle.transfers.specs.Code.{Filled, Entered};
 
 use crate::Transfer;
-use crate::internal::tests::{both_components, judged, record, share};
-use inputs::Test;
+use crate::internal::tests::{both_components, judged, share};
 use inputs::internal::write;
 use interval::internal::is_acceptable;
+use outcome::Refusal;
 
 // A component's row or column, from 0.
+#[tactic(auto, unfolding(crate::specs::Listing::is_component))]
 pub fn index(n: usize, v: i64) -> usize
     requires { is_component n v ≡ true }
     ensures { (result ≡ nat_abs v - 1) × (result < n) }
 {
-    let w = v as usize;
-    w - 1
+    v as usize - 1
 }
 
 // The position of a record's interval.
+#[tactic(auto, using(inputs::proofs::Place::cell_before), unfolding(crate::specs::Listing::both_components, crate::specs::Listing::place_of))]
 fn place(n: usize, t: Transfer) -> usize
     requires { (both_components n t ≡ true) × (n ≤ 32) }
     ensures { (result ≡ place_of n t) × (result < n * n) }
@@ -30,21 +31,18 @@ fn place(n: usize, t: Transfer) -> usize
 
 // Writes each record to its place, in one go with all its tests; stops at the first record that fails one.
 fn fill(n: usize, rs: &[[i64; 4]], square: &mut [i64]) -> bool
-    requires { (n ≤ 32) × (length rs.now ≤ 1_024) × (2 * (n * n) ≤ length square.old) }
+    requires { (n ≤ 32) × (2 * (n * n) ≤ length square.old) }
     ensures { Filled n (transfers_of rs.now) square.old result square.new }
 {
     let mut next = 0;
-    for k in 0..rs.len() {
-        let t = record(rs, k);
+    for r in rs {
+        let t = Transfer::from(*r);
         if !both_components(n, t) {
             return false;
         }
         let p = place(n, t);
-        if p < next {
-            return false;
-        }
         let v = share(t);
-        if !is_acceptable(v) {
+        if p < next || !is_acceptable(v) {
             return false;
         }
         write(square, p, v);
@@ -54,12 +52,12 @@ fn fill(n: usize, rs: &[[i64; 4]], square: &mut [i64]) -> bool
 }
 
 // The records' tests; if they pass, the square of noughts at the beginning becomes that of the list.
-pub fn enter(n: usize, rs: &[[i64; 4]], square: &mut [i64]) -> Test
-    requires { (n ≤ 32) × (length rs.now ≤ 1_024) × (2 * (n * n) ≤ length square.old) }
+pub fn enter(n: usize, rs: &[[i64; 4]], square: &mut [i64]) -> Result<(), Refusal>
+    requires { (n ≤ 32) × (2 * (n * n) ≤ length square.old) }
     ensures { Entered n (transfers_of rs.now) square.old result square.new }
 {
     if fill(n, rs, square) {
-        return Test::Pass;
+        return Ok(());
     }
     judged(n, rs)
 }

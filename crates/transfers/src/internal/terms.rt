@@ -1,9 +1,10 @@
 // The products of records with the components of their givers.
-ghost use Rattle.std.specs.Prelude.{◌≡◌, true, false, ◌+◌, ◌*◌, ◌≤◌, ◌<◌, length};
-ghost use Rattle.inputs.specs.Code.{Sound};
-ghost use Rattle.transfers.specs.Listing.{transfers_of};
-ghost use Rattle.transfers.specs.Rows.{Factors, Pair, term, two_terms};
+ghost use Rattle.std.specs.Prelude.{◌≡◌, true, ◌+◌, ◌<◌, length};
+ghost use Rattle.interval.specs.Interval.{acceptable};
+ghost use Rattle.transfers.specs.Listing.{nth, share, transfers_of};
+ghost use Rattle.transfers.specs.Rows.{Above, BothAbove, component, term, two_terms};
 
+use crate::internal::in_rows::Sums;
 use crate::internal::square::index;
 use crate::internal::tests::{record, share};
 use inputs::internal::read;
@@ -11,59 +12,63 @@ use interval::Interval;
 use interval::internal::product::{exact_product, product_above};
 use interval::internal::sum as add;
 
-// The product of the record k with the component of its giver; above says that neither is below 0. The signs of the component are looked at first, as in a row of a matrix.
-pub fn term(n: usize, above: bool, rs: &[[i64; 4]], x: &[i64], k: usize) -> Interval
-    requires k_in_bounds { (k < length rs.now) × (length rs.now ≤ 1_024) × Factors n (transfers_of rs.now) x.now above k }
-    requires x_len { (length x.now ≡ 2 * n) × Sound x.now }
-    ensures { result ≡ term (transfers_of rs.now) x.now k }
-{
-    let t = record(rs, k);
-    let j = index(n, t.giver);
-    let a = share(t);
-    let b = read(x, j);
-    if above {
-        return product_above(a, b);
+impl Sums<'_> {
+    // The share of the record k.
+    fn share(&self, k: usize) -> Interval
+        requires { k < length self.now.rows.records.now }
+        ensures { (result ≡ share (nth (transfers_of self.now.rows.records.now) k)) × (acceptable result ≡ true) }
+    {
+        share(record(self.rows.records, k))
     }
-    exact_product(b, a)
-}
 
-// The products of the records k and k + 1 together, which fit one word.
-pub fn two(n: usize, above: bool, rs: &[[i64; 4]], x: &[i64], k: usize) -> Interval
-    requires k_in_bounds { (k + 1 < length rs.now) × (length rs.now ≤ 1_024) × Pair n (transfers_of rs.now) x.now above k }
-    requires x_len { (length x.now ≡ 2 * n) × Sound x.now }
-    ensures { result ≡ two_terms (transfers_of rs.now) x.now k }
-{
-    let u = term(n, above, rs, x, k);
-    let v = term(n, above, rs, x, k + 1);
-    add(u, v)
-}
+    // The component of its giver.
+    fn component(&self, k: usize) -> Interval
+        requires { k < length self.now.rows.records.now }
+        ensures { (result ≡ component (transfers_of self.now.rows.records.now) self.now.x.now k) × (acceptable result ≡ true) }
+    {
+        let t = record(self.rows.records, k);
+        read(self.x, index(self.rows.n, t.giver))
+    }
 
-// Whether neither the share of the record k nor its component is below 0.
-fn is_above(n: usize, rs: &[[i64; 4]], x: &[i64], k: usize) -> bool
-    requires k_in_bounds { (k < length rs.now) × (length rs.now ≤ 1_024) × Factors n (transfers_of rs.now) x.now false k }
-    requires x_len { length x.now ≡ 2 * n }
-    ensures { result ≡ true → Factors n (transfers_of rs.now) x.now true k }
-{
-    let t = record(rs, k);
-    let j = index(n, t.giver);
-    let b = read(x, j);
-    if b.lo < 0 {
-        return false;
+    // Their product; above says that neither is below 0. The signs of the component are looked at first, as in a row of a matrix.
+    #[tactic(auto, using(interval::proofs::Exchanged::exchanged), unfolding(crate::specs::Rows::term))]
+    pub fn term(&self, above: bool, k: usize) -> Interval
+        requires k_in_bounds { k < length self.now.rows.records.now }
+        requires signs { above ≡ true → Above (transfers_of self.now.rows.records.now) self.now.x.now k }
+        ensures { result ≡ term (transfers_of self.now.rows.records.now) self.now.x.now k }
+    {
+        let a = self.share(k);
+        let b = self.component(k);
+        if above {
+            return product_above(a, b);
+        }
+        exact_product(b, a)
     }
-    0 <= t.lo
-}
 
-// Whether nothing of the records k and k + 1 is below 0; above says so of all.
-pub fn both_above(n: usize, above: bool, rs: &[[i64; 4]], x: &[i64], k: usize) -> bool
-    requires k_in_bounds { (k + 1 < length rs.now) × (length rs.now ≤ 1_024) × Pair n (transfers_of rs.now) x.now above k }
-    requires x_len { length x.now ≡ 2 * n }
-    ensures { result ≡ true → Pair n (transfers_of rs.now) x.now true k }
-{
-    if above {
-        return true;
+    // The products of the records k and k + 1 together, which fit one word.
+    #[tactic(auto, unfolding(crate::specs::Rows::two_terms))]
+    pub fn two(&self, above: bool, k: usize) -> Interval
+        requires k_in_bounds { k + 1 < length self.now.rows.records.now }
+        requires signs { above ≡ true → BothAbove (transfers_of self.now.rows.records.now) self.now.x.now k }
+        ensures { result ≡ two_terms (transfers_of self.now.rows.records.now) self.now.x.now k }
+    {
+        add(self.term(above, k), self.term(above, k + 1))
     }
-    if is_above(n, rs, x, k) {
-        return is_above(n, rs, x, k + 1);
+
+    // Whether neither the share of the record k nor its component is below 0.
+    fn is_above(&self, k: usize) -> bool
+        requires { k < length self.now.rows.records.now }
+        ensures { result ≡ true → Above (transfers_of self.now.rows.records.now) self.now.x.now k }
+    {
+        0 <= self.component(k).lo && 0 <= self.share(k).lo
     }
-    false
+
+    // Whether nothing of the records k and k + 1 is below 0; above says so.
+    pub fn both_above(&self, above: bool, k: usize) -> bool
+        requires k_in_bounds { k + 1 < length self.now.rows.records.now }
+        requires signs { above ≡ true → BothAbove (transfers_of self.now.rows.records.now) self.now.x.now k }
+        ensures { result ≡ true → BothAbove (transfers_of self.now.rows.records.now) self.now.x.now k }
+    {
+        above || (self.is_above(k) && self.is_above(k + 1))
+    }
 }

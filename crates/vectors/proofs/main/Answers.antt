@@ -6,9 +6,3 @@ use Rattle.vectors.proofs.main.Goals as goal
 -- by a lemma whose arguments are all written: a search goes through the whole array, for which the stack is too small
 pub slice_bounds-read_cases-end : goal.slice_bounds-read_cases-end
 slice_bounds-read_cases-end c = sym (length-replicate {0} {A = ℕ} 1048576 0)
-
-pub slice_bounds-cases-end : goal.slice_bounds-cases-end
-slice_bounds-cases-end c = c.read_cases-size.ensures.0
-
-pub slice_bounds-run_all-end : goal.slice_bounds-run_all-end
-slice_bounds-run_all-end c = c.read_cases-size.ensures.1

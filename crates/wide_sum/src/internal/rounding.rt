@@ -1,7 +1,6 @@
 ghost use Rattle.std.specs.Prelude.{◌≡◌};
-ghost use Rattle.integer.specs.Rounding.{floor_div, ceil_div};
 ghost use Rattle.interval.specs.Interval.{scale, rounded};
-ghost use Rattle.wide_sum.specs.Wide.{held, held_both};
+ghost use Rattle.wide_sum.specs.Wide.{held_both};
 ghost use Rattle.wide_sum.specs.Code.{Near, NearBoth, Parted, Handy};
 
 use crate::{Wide, WideInterval};
@@ -16,48 +15,35 @@ const SCALES: i64 = 18_446_744_073_709;
 const LEFT: i64 = 551_616;
 
 // A number as whole scales and a part.
-#[derive(Clone, Copy)]
+#[derive(Clone, Copy, Debug, PartialEq, Eq)]
 pub struct Parts {
     pub whole: i64,
     pub part: i64,
 }
 
-fn parted(w: Wide) -> Parts
-    requires { Near 1_000 w }
-    ensures { Parted w result }
-{
-    let high = w.high;
-    let low = w.low;
-    let whole = high * SCALES + (low / SCALE) as i64;
-    let part = high * LEFT + (low % SCALE) as i64;
-    Parts { whole, part }
+impl Wide {
+    fn parted(self) -> Parts
+        requires { Near 1_000 self }
+        ensures { Parted self result }
+    {
+        Parts {
+            whole: self.high * SCALES + (self.low / SCALE) as i64,
+            part: self.high * LEFT + (self.low % SCALE) as i64,
+        }
+    }
 }
 
-// Rounded to units, down and up.
-fn floor(w: Wide) -> i64
-    requires { Near 1_000 w }
-    ensures { (result ≡ floor_div (held w) scale) × Handy result }
-{
-    let p = parted(w);
-    let f = floor_div(p.part, Interval::SCALE);
-    p.whole + f
-}
-
-fn ceiling(w: Wide) -> i64
-    requires { Near 1_000 w }
-    ensures { (result ≡ ceil_div (held w) scale) × Handy result }
-{
-    let p = parted(w);
-    let c = ceil_div(p.part, Interval::SCALE);
-    p.whole + c
-}
-
-// Rounded outward to units.
-pub fn rounded(v: WideInterval) -> Interval
-    requires { NearBoth 1_000 v }
-    ensures { (result ≡ rounded scale (held_both v)) × Handy result.lo × Handy result.hi }
-{
-    let lo = floor(v.lo);
-    let hi = ceiling(v.hi);
-    Interval { lo, hi }
+impl WideInterval {
+    // Rounded outward to units.
+    pub fn rounded(self) -> Interval
+        requires { NearBoth 1_000 self }
+        ensures { (result ≡ rounded scale (held_both self)) × Handy result.lo × Handy result.hi }
+    {
+        let lo = self.lo.parted();
+        let hi = self.hi.parted();
+        Interval {
+            lo: lo.whole + floor_div(lo.part, Interval::SCALE),
+            hi: hi.whole + ceil_div(hi.part, Interval::SCALE),
+        }
+    }
 }

@@ -1,6 +1,5 @@
 use mathlib.Core.Path.{◌∙◌}
-use Rattle.capi.proofs.Flat.{call_left}
 use Rattle.capi.proofs.sweeps.kifwaleb_sweep.Goals as goal
 
 pub returns : goal.returns
-returns c = call_left c.flat.result c.sweep-s.result.outcome _ c.flat.ensures ∙ c.sweep-s.ensures
+returns c = c.into.ensures _ ∙ c.sweep.ensures

@@ -7,27 +7,24 @@ use Rattle.inputs.specs.Place.{at}
 use Rattle.inputs.specs.Tests.{proper}
 use Rattle.inputs.proofs.Tests.{proper_end, proper_go, proper_out}
 use Rattle.inputs.proofs.internal.intervals.Goals as goal
+use Rattle.inputs.proofs.internal.intervals.Goals.{After-is_acceptable}
 
 -- what the test of an interval says of it
-told : (a : goal.Then-not-is_acceptable) → acceptable (at a.args.s.now a.loop-p.p) ≡ a.is_acceptable.result
-told a = sym (a.is_acceptable.ensures ∙ ap acceptable a.read-v.ensures)
-
--- what the test of an interval says of it
-told_2 : (a : goal.Else-not-is_acceptable) → acceptable (at a.args.s.now a.loop-p.p) ≡ a.is_acceptable.result
-told_2 a = sym (a.is_acceptable.ensures ∙ ap acceptable a.read-v.ensures)
+told : (a : After-is_acceptable) → acceptable (at a.args.s.now a.loop-p.p) ≡ a.is_acceptable.result
+told a = sym (a.is_acceptable.ensures ∙ ap acceptable a.read.ensures)
 
 pub loop-p-init : goal.loop-p-init
 loop-p-init c = (omega arith, ap (λ (d : ℕ). proper c.args.s.now d 0 c.args.from) (sym (sub-zero c.args.count)))
 
-pub read-v-requires : goal.read-v-requires
-read-v-requires c = omega arith
+pub read-requires : goal.read-requires
+read-requires c = omega arith
 
 pub overflow_add-result : goal.overflow_add-result
 overflow_add-result c = omega arith
 
 pub returns-then-not-is_acceptable : goal.returns-then-not-is_acceptable
 returns-then-not-is_acceptable c =
-    sym (c.loop-p.invariant.1 ∙ proper_out _ _ _ _ c.loop-p-test.true (told c ∙ c.if-not-is_acceptable.true))
+    sym (c.loop-p.invariant.1 ∙ proper_out _ _ _ _ c.loop-p-test.true (told (goal.at.returns-then-not-is_acceptable c).After-is_acceptable ∙ c.if-not-is_acceptable.true))
 
 pub overflow_step-p : goal.overflow_step-p
 overflow_step-p c = omega arith
@@ -37,7 +34,7 @@ loop-p-smaller c = omega arith
 
 pub loop-p-preserved : goal.loop-p-preserved
 loop-p-preserved c =
-    (omega arith, c.loop-p.invariant.1 ∙ proper_go _ _ _ _ c.loop-p-test.true (told_2 c ∙ c.if-not-is_acceptable.false))
+    (omega arith, c.loop-p.invariant.1 ∙ proper_go _ _ _ _ c.loop-p-test.true (told (goal.at.loop-p-preserved c).After-is_acceptable ∙ c.if-not-is_acceptable.false))
 
 pub returns : goal.returns
 returns c = sym (c.loop-p.invariant.1 ∙ proper_end _ _ _ _ c.loop-p-test.false)

@@ -1,21 +1,12 @@
-use mathlib.Core.Path.{refl, ◌∙◌}
-use native.Mathlib.Omega.{arith}
-use Rattle.inputs.proofs.Tests.{listed_end, listed_wrong, listed_right}
+use mathlib.Core.Path.{◌∙◌}
+use Rattle.inputs.proofs.Tests.{lengths_end, lengths_wrong, lengths_right}
 use Rattle.inputs.proofs.internal.lengths.Goals as goal
 
-pub loop-i-init : goal.loop-i-init
-loop-i-init c = (omega arith, refl)
-
-pub offset_bounds-slices-i : goal.offset_bounds-slices-i
-offset_bounds-slices-i c = omega (arith, c.requires)
-
 pub returns-then-s : goal.returns-then-s
-returns-then-s c =
-    listed_wrong c.args.slices.now c.loop-i.i (omega arith) c.if-s.true ∙ c.loop-i.invariant.1
+returns-then-s c = lengths_wrong _ _ _ c.loop-s-test.true c.if-s.true ∙ c.loop-s.invariant
 
-pub loop-i-preserved : goal.loop-i-preserved
-loop-i-preserved c =
-    (omega arith, listed_right c.args.slices.now c.loop-i.i (omega arith) c.if-s.false ∙ c.loop-i.invariant.1)
+pub loop-s-preserved : goal.loop-s-preserved
+loop-s-preserved c = lengths_right _ _ _ c.loop-s-test.true c.if-s.false ∙ c.loop-s.invariant
 
 pub returns : goal.returns
-returns c = listed_end c.args.slices.now c.loop-i.i (omega arith) ∙ c.loop-i.invariant.1
+returns c = lengths_end _ _ c.loop-s-test.false ∙ c.loop-s.invariant

@@ -1,12 +1,8 @@
 use mathlib.Core.Path.{◌≡◌}
-use Prim.Native.Nat.{◌-◌, ◌≤◌}
-use lib.ListN.{length}
+use Prim.Native.Nat.{◌-◌}
 use Rattle.inputs.specs.Code.{Sound}
 use Rattle.forward.specs.Formed.{formed_row}
 use Rattle.forward.proofs.internal.formed.formed_row.Given as goal
 
 abbrev pub invariant-loop-j : goal.invariant-loop-j
-invariant-loop-j l = (l.j ≤ l.n) × (length l.t ≡ length l.initial.t) × Sound l.t × (formed_row l.n l.i l.n 0 l.initial.t ≡ formed_row l.n l.i (l.n - l.j) l.j l.t)
-
-abbrev pub decreases-loop-j : goal.decreases-loop-j
-decreases-loop-j l = l.n - l.j
+invariant-loop-j l = Sound l.t × (formed_row l.n l.i l.n 0 l.initial.t ≡ formed_row l.n l.i (l.n - l.j) l.j l.t)

@@ -1,48 +1,20 @@
-use lib.IntN.{pos}
-use lib.Signed.{◌≤ℤ◌, ◌<ℤ◌}
+use mathlib.Core.Path.{◌≡◌, sym, ap, ◌∙◌}
 use Prim.Native.Nat.{◌^◌, ◌<◌}
 use borrow.Author.Rules.{rules}
 use mir.Syntax.{w64}
-use mir.Val.{SFits}
+use mir.Val.{SFits, to_z}
 use mir.ValLaws.{to_z-of_z}
-use Rattle.integer.proofs.Order.{taken, left}
-use Rattle.half_rows.proofs.Short.{rest_fits, turned_safe, turned_is, word_fits, one_word}
+use Rattle.half_rows.proofs.Short.{one_word_below, one_word_above}
 use Rattle.half_rows.proofs.internal.short.short.Goals as goal
+use Rattle.half_rows.proofs.internal.short.short.Goals.{then-low-lt0, else-low-lt0}
 
-below : (c : goal.After-struct_known-then-w-lt0-1) → c.args.w.high <ℤ pos 0
-below c =
+pub returns-then-w-sign : goal.returns-then-w-sign
+returns-then-w-sign c =
     let w = c.args.w in
     let f : SFits w64 w.high = search rules in
-    taken _ _ (rw (to_z-of_z w64 w.high f) at c.if-w-lt0.true)
-
-not_below : (c : goal.After-struct_known-2-1) → pos 0 ≤ℤ c.args.w.high
-not_below c =
-    let w = c.args.w in
-    let f : SFits w64 w.high = search rules in
-    left _ _ (rw (to_z-of_z w64 w.high f) at c.if-w-lt0.false)
-
-few : (c : goal.After-struct_known-then-w-lt0-1) → c.args.w.low < 2 ^ 64
-few c = search rules
-
-few_2 : (c : goal.After-struct_known-2-1) → c.args.w.low < 2 ^ 64
-few_2 c = search rules
-
-pub overflow_cast-result : goal.overflow_cast-result
-overflow_cast-result c =
-    rest_fits c.requires (few c) (below c)
-
-pub overflow_sub-result-then-w-lt0 : goal.overflow_sub-result-then-w-lt0
-overflow_sub-result-then-w-lt0 c =
-    turned_safe c.requires (few c) (below c)
-
-pub returns-then-w-lt0 : goal.returns-then-w-lt0
-returns-then-w-lt0 c =
-    turned_is c.requires (few c) (below c)
-
-pub overflow_cast-result-2 : goal.overflow_cast-result-2
-overflow_cast-result-2 c =
-    word_fits c.requires (few_2 c) (not_below c)
-
-pub returns : goal.returns
-returns c =
-    one_word c.requires (few_2 c) (not_below c)
+    let k : w.low < 2 ^ 64 = search rules in
+    let e : w.high ≡ to_z w64 c.if-low-lt0.sign-bits = sym (to_z-of_z w64 w.high f) ∙ ap (to_z w64) c.if-w-sign.true in
+    elim c.if-low-lt0.branch [
+      | then-low-lt0 b ↦ one_word_below w k c.cast_signed-low.ensures b.if-low-lt0.true (e ∙ b.sign-is)
+      | else-low-lt0 b ↦ one_word_above w k c.cast_signed-low.ensures b.if-low-lt0.false (e ∙ b.sign-is)
+    ]

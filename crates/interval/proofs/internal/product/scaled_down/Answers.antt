@@ -1,24 +1,17 @@
 use mathlib.Core.Path.{◌∙◌}
 use lib.IntN.{pos}
-use lib.Signed.{le_z_yes}
+use mir.Syntax.{w64}
+use mir.ValLaws.{to_z-of_z}
 use Rattle.integer.proofs.Rounding.{floor_biased}
+use Rattle.integer.proofs.Machine.{plain}
 use Rattle.interval.specs.Interval.{scale}
 use Rattle.interval.proofs.Range.{scale_above}
-use Rattle.interval.proofs.Scaled.{biased_add, biased_cast, biased_part, biased_less, biased_read}
 use Rattle.interval.proofs.internal.product.scaled_down.Goals as goal
 
-pub overflow_add-n : goal.overflow_add-n
-overflow_add-n c = biased_add _ _ c.ranges.p (c.requires.negsuc_bound, c.requires.p_bound) (le_z_yes tt) (le_z_yes tt)
-
-pub overflow_cast-n : goal.overflow_cast-n
-overflow_cast-n c = biased_cast _ _ c.ranges.p (c.requires.negsuc_bound, c.requires.p_bound) (le_z_yes tt) (le_z_yes tt)
-
-pub overflow_cast-q : goal.overflow_cast-q
-overflow_cast-q c = biased_part _ _ c.ranges.p (c.requires.negsuc_bound, c.requires.p_bound) (le_z_yes tt) (le_z_yes tt)
-
-pub overflow_sub-result : goal.overflow_sub-result
-overflow_sub-result c = biased_less _ _ c.ranges.p (c.requires.negsuc_bound, c.requires.p_bound) (le_z_yes tt) (le_z_yes tt)
+pub biased-requires-clause-p_bound : goal.biased-requires-clause-p_bound
+biased-requires-clause-p_bound c = rw (to_z-of_z w64 _ c.ranges.p) (c.requires.negsuc_bound, c.requires.p_bound)
 
 pub returns : goal.returns
 unfolding scale
-returns c = biased_read _ _ c.ranges.p (c.requires.negsuc_bound, c.requires.p_bound) (le_z_yes tt) (le_z_yes tt) ∙ floor_biased c.args.p (pos 1000000) (pos 4000000000000) scale_above
+returns c =
+    plain _ c.biased.type_inv ∙ rw (to_z-of_z w64 _ c.ranges.p) at c.biased.ensures ∙ floor_biased c.args.p (pos 1000000) (pos 4000000000000) scale_above

@@ -1,16 +1,14 @@
-use mathlib.Core.Path.{sym, ◌∙◌}
+use mathlib.Core.Path.{◌∙◌}
 use Rattle.inputs.specs.System.{system}
 use Rattle.report.proofs.Call.{calculation_swept, calculation_refused}
 use Rattle.report.proofs.internal.calculation.calculate.Goals as goal
 
--- src/internal/calculation.rt:22:9
-pub returns-then-number-eq0 : goal.returns-then-number-eq0
-returns-then-number-eq0 c =
+pub returns-in-Ok : goal.returns-in-Ok
+returns-in-Ok c =
     let a = c.args in
-    c.sweep.ensures ∙ calculation_swept (system a.n a.matrix.now a.right.now) a.bounds.now c.eliminate_balance-o.result c.eliminate_balance-o.new.bounds c.eliminate_balance-o.ensures (sym c.number.ensures ∙ c.if-number-eq0.true)
+    c.sweep.ensures ∙ calculation_swept (system a.n a.matrix.now a.right.now) a.bounds.now _ _ c.eliminate_balance.ensures c.in-Ok.is
 
--- src/internal/calculation.rt:14:1
-pub returns : goal.returns
-returns c =
+pub returns-in-Err : goal.returns-in-Err
+returns-in-Err c =
     let a = c.args in
-    calculation_refused (system a.n a.matrix.now a.right.now) a.bounds.now c.eliminate_balance-o.result c.eliminate_balance-o.new.bounds c.eliminate_balance-o.ensures (λ z. c.if-number-eq0.false (c.number.ensures ∙ z))
+    calculation_refused (system a.n a.matrix.now a.right.now) a.bounds.now _ _ c.eliminate_balance.ensures c.in-Err.is

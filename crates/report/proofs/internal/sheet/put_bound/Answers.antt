@@ -1,18 +1,21 @@
-use native.Mathlib.Omega.{arith}
+use mathlib.Core.Path.{◌≡◌, ◌∙◌}
+use mathlib.Core.List.{◌++◌}
 use mir.Syntax.{w64}
 use mir.Val.{SFits}
 use mir.ValLaws.{to_z-of_z}
 use borrow.Author.Rules.{rules}
+use Rattle.report.specs.Decimal.{decimal}
 use Rattle.report.specs.Sheet.{bound}
-use Rattle.report.proofs.Put.{and_then}
+use Rattle.report.proofs.Decimal.{signed}
+use Rattle.report.proofs.Sheet.{joined}
 use Rattle.report.proofs.internal.sheet.put_bound.Goals as goal
 
-pub returns : goal.returns
+pub returns-clause-text : goal.returns-clause-text
 unfolding bound
-returns c =
+returns-clause-text c =
     let v = c.args.v in
-    let fl : SFits w64 v.lo = search rules in
-    let fu : SFits w64 v.hi = search rules in
-    let lower = rw (to_z-of_z w64 v.lo fl) at c.put_decimal-colon.ensures.put in
-    let upper = rw (to_z-of_z w64 v.hi fu) at c.put_decimal.ensures.put in
-    record { put = and_then lower (and_then c.put_byte-upper.ensures upper); upper_bound = omega arith }
+    let l : SFits w64 v.lo = search rules in
+    let u : SFits w64 v.hi = search rules in
+    let lo : c.put_number.new.sheet.items ≡ c.args.sheet.now.items ++ decimal v.lo = c.put_number.ensures.text ∙ rw (to_z-of_z w64 v.lo l, signed v.lo l) in
+    let hi : c.put_number-2.new.sheet.items ≡ c.push.new.self.items ++ decimal v.hi = c.put_number-2.ensures.text ∙ rw (to_z-of_z w64 v.hi u, signed v.hi u) in
+    rw (hi, c.push.ensures.items, lo) (joined c.args.sheet.now.items (decimal v.lo) 58 (decimal v.hi))

@@ -11,7 +11,7 @@ use Rattle.integer.proofs.Machine.{plain}
 use Rattle.interval.specs.Interval.{scale, within}
 use Rattle.interval.proofs.Range.{is_within, product_fits, scale_within, scaled_read}
 use Rattle.start_box.specs.Reach.{quotient}
-use Rattle.start_box.proofs.Reach.{divided_out, divided_high, divided_is, gap_fits, gap_above}
+use Rattle.start_box.proofs.Reach.{divided_high, divided_is, gap_fits, gap_above}
 use Rattle.start_box.proofs.internal.reach.divided.Goals.{After-within, After-within-then-within}
 use Rattle.start_box.proofs.internal.reach.divided.Goals as goal
 
@@ -30,10 +30,6 @@ overflow_mul-p c = rw (to_z-of_z w64 _ c.ranges.p) (product_fits (is_within _ (p
 gap : {z : ℤ} → SFits w64 z → (pos 0 ≤ℤ z) × (z <ℤ scale) → to_z w64 (of_z w64 (pos 1000000 -ℤ to_z w64 (of_z w64 z))) ≡ scale -ℤ z
 unfolding scale
 gap f h = rw (to_z-of_z w64 _ f) (to_z-of_z w64 _ (gap_fits h.0 h.1))
-
-pub overflow_sub-sum : goal.overflow_sub-sum
-unfolding scale
-overflow_sub-sum c = rw (to_z-of_z w64 _ c.ranges.sum) (gap_fits c.requires.0 c.requires.1)
 
 pub ceil_div-q-requires : goal.ceil_div-q-requires
 ceil_div-q-requires c = rw (gap c.ranges.sum c.requires) (gap_above c.requires.1)
@@ -57,6 +53,3 @@ pub returns-else-within-2 : goal.returns-else-within-2
 returns-else-within-2 c =
     let p = goal.at.returns-else-within-2 c in
     divided_high _ _ (p_in p.After-within c.if-within.true) (sym (q_test p.After-within-then-within) ∙ c.if-within-2.false)
-
-pub returns-else-within : goal.returns-else-within
-returns-else-within c = divided_out _ _ (sym (p_test (goal.at.returns-else-within c).After-within) ∙ c.if-within.false)

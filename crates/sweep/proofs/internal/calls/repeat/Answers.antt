@@ -1,48 +1,26 @@
-use mathlib.Core.Path.{refl, sym, ◌∙◌}
+use mathlib.Core.Path.{ap, ◌∙◌}
 use native.Mathlib.Omega.{arith}
-use native.Mathlib.Nat.{sub-zero}
-use Rattle.sweep.proofs.Pass.{ready_after}
-use Rattle.sweep.proofs.Log.{sweeps_spent, sweeps_stopped, sweeps_settled, sweeps_go, since_start, since_more, logged_empty, logged_settled, logged_spent, was_empty, was_whole, was_flagged}
+use Rattle.std.specs.Prelude.{Ok}
+use Rattle.sweep.proofs.Log.{midway_start, midway_refused, midway_settled, midway_go, midway_spent}
 use Rattle.sweep.proofs.internal.calls.repeat.Goals as goal
 
 pub loop-count-init : goal.loop-count-init
-loop-count-init c = (omega arith, c.requires.ready.0, rw sub-zero (since_start _ _))
+loop-count-init g c = record { ready = c.requires; midway = midway_start _ _ _ _ }
 
-pub pass_once-requires : goal.pass_once-requires
-pass_once-requires c = (c.loop-count.invariant.1, c.requires.ready.1)
+pub returns-in-Err : goal.returns-in-Err
+returns-in-Err g c = midway_refused c.loop-count.invariant.midway c.loop-count-test.true c.pass_once.ensures.passed c.in-Err.is
 
-pub shape_of-x-in-Empty : goal.shape_of-x-in-Empty
-shape_of-x-in-Empty c =
-    c.pass_once.auto.x ∙ c.loop-count.invariant.1.box ∙ sym c.requires.ready.0.box
-
-pub returns-in-Empty : goal.returns-in-Empty
-returns-in-Empty c =
-    logged_empty c.loop-count.invariant.2 _ (sweeps_stopped _ _ _ _ _ c.loop-count-test.true (was_empty c.pass_once.ensures c.in-Empty.is))
-
-pub shape_of-x-then-not-changed : goal.shape_of-x-then-not-changed
-shape_of-x-then-not-changed c =
-    c.pass_once.auto.x ∙ c.loop-count.invariant.1.box ∙ sym c.requires.ready.0.box
-
-pub returns-then-not-changed : goal.returns-then-not-changed
-returns-then-not-changed c =
-    let p = c.pass_once.ensures in
-    let g = c.in-Whole.is in
-    logged_settled
-    (since_more c.loop-count.invariant.2 (sweeps_settled _ _ _ _ _ c.loop-count-test.true (was_whole p g) (sym (was_flagged p g) ∙ c.if-not-changed.true)))
-    refl
+pub returns-in-Ok-false : goal.returns-in-Ok-false
+returns-in-Ok-false g c =
+    midway_settled c.loop-count.invariant.midway c.loop-count-test.true c.pass_once.ensures.passed (c.in-Ok-false.is ∙ ap Ok c.in-Ok-false.field-0-test)
 
 pub loop-count-preserved : goal.loop-count-preserved
-loop-count-preserved c =
-    let h = c.loop-count-test.true in
-    let p = c.pass_once.ensures in
-    let g = c.in-Whole.is in (
-      omega arith,
-      ready_after c.loop-count.invariant.1 c.pass_once.auto.x p.sound,
-      since_more c.loop-count.invariant.2 (sweeps_go _ _ _ _ _ h (was_whole p g) (sym (was_flagged p g) ∙ c.if-not-changed.false)),
-    )
-
-pub shape_of-x : goal.shape_of-x
-shape_of-x c = c.loop-count.invariant.1.box ∙ sym c.requires.ready.0.box
+loop-count-preserved g c =
+    record {
+      ready = c.pass_once.ensures.ready;
+      midway =
+          midway_go c.loop-count.invariant.midway c.loop-count-test.true c.pass_once.ensures.passed (c.in-Ok-true.is ∙ ap Ok c.in-Ok-true.field-0-test);
+    }
 
 pub returns : goal.returns
-returns c = logged_spent c.loop-count.invariant.2 (sweeps_spent _ _ _ _ _ c.loop-count-test.false)
+returns g c = midway_spent c.loop-count.invariant.midway (omega arith)

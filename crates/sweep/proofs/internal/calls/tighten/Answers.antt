@@ -3,85 +3,43 @@ use mathlib.Core.List.{List}
 use native.Mathlib.Omega.{arith}
 use lib.IntN.{ℤ}
 use lib.ListN.{length}
-use Rattle.inputs.specs.System.{system}
 use Rattle.sweep.specs.Call.{sweeps}
-use Rattle.sweep.specs.Code.{Ready, pass, Logged}
-use Rattle.sweep.proofs.Tests.{ready, allowed_few}
+use Rattle.sweep.specs.Code.{pass, Logged}
 use Rattle.sweep.proofs.Log.{copied_all, logged_from, ran_lent, ran_written}
 use Rattle.sweep.proofs.internal.calls.tighten.Goals as goal
+use Rattle.sweep.proofs.internal.calls.tighten.Goals.{Start, After-copy_out, After-repeat-s}
 
-is_ready : (c : goal.After-copy_out-arg-1) → Ready c.args.n c.args.m.now c.args.r.now c.args.bounds.now
-is_ready c = ready (system c.args.n c.args.m.now c.args.r.now) _ _ c.requires.bounds_value
-
-is_ready_2 : (c : goal.After-repeat-arg-1) → Ready c.args.n c.args.m.now c.args.r.now c.args.bounds.now
-is_ready_2 c = ready (system c.args.n c.args.m.now c.args.r.now) _ _ c.requires.bounds_value
-
-is_ready_3 : (c : goal.After-copy_out-arg-then-number-ne7-1) → Ready c.args.n c.args.m.now c.args.r.now c.args.bounds.now
-is_ready_3 c = ready (system c.args.n c.args.m.now c.args.r.now) _ _ c.requires.bounds_value
-
-is_ready_4 : (c : goal.After-bounds-1) → Ready c.args.n c.args.m.now c.args.r.now c.args.bounds.now
-is_ready_4 c = ready (system c.args.n c.args.m.now c.args.r.now) _ _ c.requires.bounds_value
-
-is_ready_5 : (c : goal.Else-number-ne7) → Ready c.args.n c.args.m.now c.args.r.now c.args.bounds.now
-is_ready_5 c = ready (system c.args.n c.args.m.now c.args.r.now) _ _ c.requires.bounds_value
-
-as_long : (c : goal.After-copy_out-arg-1) → length c.args.x.now ≡ length c.args.bounds.now
-as_long c = c.requires.x_len.0 ∙ sym (is_ready c).box
-
-as_long_2 : (c : goal.After-repeat-arg-1) → length c.args.x.now ≡ length c.args.bounds.now
-as_long_2 c = c.requires.x_len.0 ∙ sym (is_ready_2 c).box
-
-as_long_3 : (c : goal.After-copy_out-arg-then-number-ne7-1) → length c.args.x.now ≡ length c.args.bounds.now
-as_long_3 c = c.requires.x_len.0 ∙ sym (is_ready_3 c).box
-
-as_long_4 : (c : goal.After-bounds-1) → length c.args.x.now ≡ length c.args.bounds.now
-as_long_4 c = c.requires.x_len.0 ∙ sym (is_ready_4 c).box
-
-as_long_5 : (c : goal.Else-number-ne7) → length c.args.x.now ≡ length c.args.bounds.now
-as_long_5 c = c.requires.x_len.0 ∙ sym (is_ready_5 c).box
+as_long : (g : _) (c : Start g) → length c.args.x.now ≡ length c.args.bounds.now
+as_long g c = c.requires.x_len ∙ sym (g.met.B.Balance.all_sound _ _ c.requires.ready).box
 
 -- the copy is the lent box
-copied : (c : goal.After-repeat-arg-1) → c.copy_out.new.x ≡ c.args.bounds.now
-copied c = let a = c.args in copied_all a.x.now a.bounds.now c.copy_out.ensures (as_long_2 c)
+copied : (g : _) (c : After-copy_out g) → c.copy_out.new.x ≡ c.args.bounds.now
+copied g c = copied_all _ _ c.copy_out.ensures (as_long g (goal.at.After-copy_out g c).Start)
 
-copied_2 : (c : goal.After-bounds-1) → c.copy_out.new.x ≡ c.args.bounds.now
-copied_2 c = let a = c.args in copied_all a.x.now a.bounds.now c.copy_out.ensures (as_long_4 c)
+-- the sweeps, from the lent box on; the box after them is as long as the lent one
+logged : (g : _) (c : After-repeat-s g) →
+    let s = g.B.Balance.system c.args.balance.now in
+    Logged (sweeps s.size (pass c.args.way s) c.args.allowed c.args.bounds.now) c.args.bounds.now c.repeat-s.result c.repeat-s.new.x
+logged g c = logged_from _ _ _ (copied g (goal.at.After-repeat-s g c).After-copy_out) c.repeat-s.ensures
 
-copied_3 : (c : goal.Else-number-ne7) → c.copy_out.new.x ≡ c.args.bounds.now
-copied_3 c = let a = c.args in copied_all a.x.now a.bounds.now c.copy_out.ensures (as_long_5 c)
+left_long : (g : _) (c : After-repeat-s g) → length c.repeat-s.new.x ≡ length c.args.bounds.now
+left_long g c = c.repeat-s.auto.x ∙ c.copy_out.auto.x ∙ as_long g (goal.at.After-repeat-s g c).Start
 
 pub copy_out-requires : goal.copy_out-requires
-copy_out-requires c = omega (arith, as_long c)
+copy_out-requires g c = omega (arith, as_long g (goal.at.copy_out-requires g c).Start)
 
 pub repeat-s-requires : goal.repeat-s-requires
-repeat-s-requires c =
-    record { ready = (subst (λ (y : List ℤ). Ready c.args.n c.args.m.now c.args.r.now y) (sym (copied c)) (is_ready_2 c), c.requires.x_len.1); allowed_bound = allowed_few (system c.args.n c.args.m.now c.args.r.now) _ _ c.requires.bounds_value }
+repeat-s-requires g c =
+    subst (λ (y : List ℤ). g.B.Balance.is_ready c.args.balance.now y) (sym (copied g (goal.at.repeat-s-requires g c).After-copy_out)) c.requires.ready
 
--- ---- the sweeps, from the lent box on
-logged : (c : goal.After-bounds-1) →
-    let a = c.args in
-    Logged (sweeps a.n (pass a.halves (system a.n a.m.now a.r.now)) a.allowed a.bounds.now) a.bounds.now c.repeat-s.result c.repeat-s.new.x
-logged c = logged_from _ _ _ (copied_2 c) c.repeat-s.ensures
+pub copy_out-requires-then-is_ok : goal.copy_out-requires-then-is_ok
+copy_out-requires-then-is_ok g c = omega (arith, left_long g (goal.at.copy_out-requires-then-is_ok g c).After-repeat-s)
 
-logged_2 : (c : goal.Else-number-ne7) →
-    let a = c.args in
-    Logged (sweeps a.n (pass a.halves (system a.n a.m.now a.r.now)) a.allowed a.bounds.now) a.bounds.now c.repeat-s.result c.repeat-s.new.x
-logged_2 c = logged_from _ _ _ (copied_3 c) c.repeat-s.ensures
+pub returns-then-is_ok : goal.returns-then-is_ok
+returns-then-is_ok g c =
+    let b = (goal.at.returns-then-is_ok g c).After-repeat-s in
+    ran_written (logged g b) (sym c.is_ok.ensures.value ∙ c.if-is_ok.true)
+    (copied_all c.args.bounds.now c.repeat-s.new.x c.copy_out-then-is_ok.ensures (sym (left_long g b)))
 
--- the box after the sweeps is as long as the lent one
-left_long : (c : goal.After-copy_out-arg-then-number-ne7-1) → length c.repeat-s.new.x ≡ length c.args.bounds.now
-left_long c = c.repeat-s.auto.x ∙ c.copy_out.auto.x ∙ as_long_3 c
-
-left_long_2 : (c : goal.After-bounds-1) → length c.repeat-s.new.x ≡ length c.args.bounds.now
-left_long_2 c = c.repeat-s.auto.x ∙ c.copy_out.auto.x ∙ as_long_4 c
-
-pub copy_out-requires-then-number-ne7 : goal.copy_out-requires-then-number-ne7
-copy_out-requires-then-number-ne7 c = omega (arith, left_long c)
-
-pub returns-then-number-ne7 : goal.returns-then-number-ne7
-returns-then-number-ne7 c =
-    ran_written (logged c) (λ e. c.if-number-ne7.true (c.number.ensures ∙ e))
-    (copied_all c.args.bounds.now c.repeat-s.new.x c.copy_out-then-number-ne7.ensures (sym (left_long_2 c)))
-
-pub returns-else-number-ne7 : goal.returns-else-number-ne7
-returns-else-number-ne7 c = ran_lent (logged_2 c) (sym c.number.ensures ∙ c.if-number-ne7.false)
+pub returns-else-is_ok : goal.returns-else-is_ok
+returns-else-is_ok g c = ran_lent (logged g (goal.at.returns-else-is_ok g c).After-repeat-s) (sym c.is_ok.ensures.value ∙ c.if-is_ok.false)

@@ -1,108 +1,58 @@
-use mathlib.Core.Path.{sym, ◌∙◌}
-use Prim.Native.Nat.{◌*◌, ◌≤◌, ◌<◌}
+use mathlib.Core.Path.{ap}
+use mathlib.Core.List.{◌∷◌, ◌++◌}
+use Prim.Native.Nat.{◌+◌, ◌-◌}
 use native.Mathlib.Omega.{arith}
+use Rattle.outcome.proofs.Run.{carried}
+use Rattle.sweep.specs.Pass.{up, down}
 use Rattle.sweep.specs.Code.{pass}
-use Rattle.sweep.proofs.Turns.{turn_below}
-use Rattle.sweep.proofs.Pass.{halfway_start, halfway_stop, halfway_go, halfway_end, few_turns}
+use Rattle.sweep.proofs.Turns.{back, up_more, up_end, down_more, down_end}
+use Rattle.sweep.proofs.Pass.{Halfway, halfway_start, halfway_go, passed, passed_stop}
 use Rattle.sweep.proofs.internal.pass.pass_once.Goals as goal
+use Rattle.sweep.proofs.internal.pass.pass_once.Goals.{In-loop-i, After-loop-i, In-loop-i-2}
 
-pub overflow_mul-k-end : goal.overflow_mul-k-end
-overflow_mul-k-end c = omega (arith, few_turns c.args.n _ c.requires.1, c.requires.0.few)
+pub loop-i-init : goal.loop-i-init
+loop-i-init g c = halfway_start c.args.way (g.B.Balance.system c.args.balance.now) (g.met.B.Balance.all_sound _ _ c.requires)
 
-pub loop-k-init : goal.loop-k-init
-loop-k-init c = (omega arith, halfway_start _ c.requires.0)
+-- component i is the next, on the way there and on the way back; between them nothing but the way back is left
+next : (g : _) (c : In-loop-i g) →
+    let s = g.B.Balance.system c.args.balance.now in
+    Halfway s (pass c.args.way s c.args.x.now) (c.loop-i.i ∷ (up (s.size - (c.loop-i.i + 1)) (c.loop-i.i + 1) ++ back c.args.way s.size)) c.args.x.now c.loop-i.x c.loop-i.changed
+next g c = rw (up_more (rw c.size-n.ensures at c.loop-i-test.true)) at c.loop-i.invariant
 
--- ---- a turn is one of a pass there and back, and its component is one of the box
-limit : (c : goal.In-loop-k) → c.args.halves * c.args.n ≤ 2 * c.args.n
-limit c = few_turns c.args.n c.args.halves c.requires.1
+turned : (g : _) (c : After-loop-i g) →
+    let s = g.B.Balance.system c.args.balance.now in
+    Halfway s (pass c.args.way s c.args.x.now) (back c.args.way s.size) c.args.x.now c.loop-i.x c.loop-i.changed
+turned g c = rw (up_end (rw c.size-n.ensures at c.loop-i-test.false)) at c.loop-i.invariant
 
-limit_2 : (c : goal.After-turn-i) → c.args.halves * c.args.n ≤ 2 * c.args.n
-limit_2 c = few_turns c.args.n c.args.halves c.requires.1
+next_back : (g : _) (c : In-loop-i-2 g) →
+    let s = g.B.Balance.system c.args.balance.now in
+    let i = c.loop-i-2.i in
+    Halfway s (pass c.args.way s c.args.x.now) ((i - 1) ∷ down (i - 1)) c.args.x.now c.loop-i-2.x c.loop-i-2.changed
+next_back g c = rw (down_more _ c.loop-i-2-test.true) at c.loop-i-2.invariant
 
-limit_3 : (c : goal.Then-is_empty) → c.args.halves * c.args.n ≤ 2 * c.args.n
-limit_3 c = few_turns c.args.n c.args.halves c.requires.1
+pub returns-in_err-changed-clause-passed : goal.returns-in_err-changed-clause-passed
+returns-in_err-changed-clause-passed g c =
+    passed_stop (next g (goal.at.returns-in_err-changed-clause-passed g c).In-loop-i) (carried _ _ c.from_residual.ensures.1) c.in_err-changed.ensures
 
-limit_4 : (c : goal.Else-is_empty) → c.args.halves * c.args.n ≤ 2 * c.args.n
-limit_4 c = few_turns c.args.n c.args.halves c.requires.1
+pub loop-i-preserved : goal.loop-i-preserved
+loop-i-preserved g c = halfway_go (next g (goal.at.loop-i-preserved g c).In-loop-i) (rw c.size-n.ensures at c.loop-i-test.true) c.in_ok-changed.ensures
 
-limit_5 : (c : goal.After-write-arg-1) → c.args.halves * c.args.n ≤ 2 * c.args.n
-limit_5 c = few_turns c.args.n c.args.halves c.requires.1
+pub loop-i-2-init : goal.loop-i-2-init
+loop-i-2-init g c =
+    rw (c.size-n.ensures, ← (ap (λ w. back w (g.B.Balance.system c.args.balance.now).size) c.in-ThereAndBack.is)) (turned g (goal.at.loop-i-2-init g c).After-loop-i)
 
-limit_6 : (c : goal.After-x-1) → c.args.halves * c.args.n ≤ 2 * c.args.n
-limit_6 c = few_turns c.args.n c.args.halves c.requires.1
+pub returns-in_err-changed-in-ThereAndBack-clause-passed : goal.returns-in_err-changed-in-ThereAndBack-clause-passed
+returns-in_err-changed-in-ThereAndBack-clause-passed g c =
+    passed_stop (next_back g (goal.at.returns-in_err-changed-in-ThereAndBack-clause-passed g c).In-loop-i-2)
+    (carried _ _ c.from_residual-in_err-changed-in-ThereAndBack.ensures.1) c.in_err-changed-in-ThereAndBack.ensures
 
-within : (c : goal.In-loop-k) → c.loop-k.k < 2 * c.args.n
-within c = omega (arith, limit c, c.loop-k-test.true)
+pub loop-i-2-preserved : goal.loop-i-2-preserved
+loop-i-2-preserved g c =
+    halfway_go (next_back g (goal.at.loop-i-2-preserved g c).In-loop-i-2) (omega (arith, c.size-n.ensures)) c.in_ok-changed-in-ThereAndBack.ensures
 
-within_2 : (c : goal.After-turn-i) → c.loop-k.k < 2 * c.args.n
-within_2 c = omega (arith, limit_2 c, c.loop-k-test.true)
+pub returns-in-There-clause-passed : goal.returns-in-There-clause-passed
+returns-in-There-clause-passed g c =
+    passed (ap (λ w. back w (g.B.Balance.system c.args.balance.now).size) c.in-There.is) (turned g (goal.at.returns-in-There-clause-passed g c).After-loop-i)
 
-within_3 : (c : goal.Then-is_empty) → c.loop-k.k < 2 * c.args.n
-within_3 c = omega (arith, limit_3 c, c.loop-k-test.true)
-
-within_4 : (c : goal.Else-is_empty) → c.loop-k.k < 2 * c.args.n
-within_4 c = omega (arith, limit_4 c, c.loop-k-test.true)
-
-within_5 : (c : goal.After-write-arg-1) → c.loop-k.k < 2 * c.args.n
-within_5 c = omega (arith, limit_5 c, c.loop-k-test.true)
-
-within_6 : (c : goal.After-x-1) → c.loop-k.k < 2 * c.args.n
-within_6 c = omega (arith, limit_6 c, c.loop-k-test.true)
-
-in_box : (c : goal.After-turn-i) → c.turn-i.result < c.args.n
-in_box c = rw c.turn-i.ensures (turn_below _ _ (within_2 c))
-
-in_box_2 : (c : goal.Then-is_empty) → c.turn-i.result < c.args.n
-in_box_2 c = rw c.turn-i.ensures (turn_below _ _ (within_3 c))
-
-in_box_3 : (c : goal.Else-is_empty) → c.turn-i.result < c.args.n
-in_box_3 c = rw c.turn-i.ensures (turn_below _ _ (within_4 c))
-
-in_box_4 : (c : goal.After-write-arg-1) → c.turn-i.result < c.args.n
-in_box_4 c = rw c.turn-i.ensures (turn_below _ _ (within_5 c))
-
-pub turn-i-requires : goal.turn-i-requires
-turn-i-requires c = (c.loop-k.invariant.1.ready.few, within c)
-
-pub component-v-requires : goal.component-v-requires
-component-v-requires c = (c.loop-k.invariant.1.ready, in_box c)
-
-pub overflow_add-result : goal.overflow_add-result
-overflow_add-result c = omega (arith, in_box_2 c, c.loop-k.invariant.1.ready.few)
-
-pub shape_of-x-then-is_empty : goal.shape_of-x-then-is_empty
-shape_of-x-then-is_empty c = c.loop-k.invariant.1.ready.box ∙ sym c.requires.0.box
-
-pub returns-then-is_empty : goal.returns-then-is_empty
-unfolding pass
-returns-then-is_empty c =
-    record {
-      is = halfway_stop c.loop-k.invariant.1 c.loop-k-test.true (limit_3 c) c.turn-i.ensures c.component-v.ensures (sym c.is_empty.ensures ∙ c.if-is_empty.true);
-      flagged = tt;
-      sound = c.loop-k.invariant.1.ready.box_sound;
-    }
-
-pub read-old-requires : goal.read-old-requires
-read-old-requires c = omega (arith, in_box_3 c, c.loop-k.invariant.1.ready.box)
-
-pub write-requires : goal.write-requires
-write-requires c = omega (arith, in_box_4 c, c.loop-k.invariant.1.ready.box)
-
-pub overflow_step-k : goal.overflow_step-k
-overflow_step-k c =
-    omega (arith, within_6 c, c.requires.0.few)
-
-pub loop-k-preserved : goal.loop-k-preserved
-loop-k-preserved c = (
-  omega (arith, c.loop-k-test.true),
-  halfway_go c.loop-k.invariant.1 c.loop-k-test.true (limit_6 c) c.turn-i.ensures c.component-v.ensures
-      (sym c.is_empty.ensures ∙ c.if-is_empty.false)
-      c.read-old.ensures c.moved-changed.ensures c.write.ensures,
-)
-
-pub shape_of-x : goal.shape_of-x
-shape_of-x c = c.loop-k.invariant.1.ready.box ∙ sym c.requires.0.box
-
-pub returns : goal.returns
-unfolding pass
-returns c = let w = c.loop-k.invariant.1 in record { is = halfway_end w c.loop-k-test.false; flagged = w.flag; sound = w.ready.box_sound }
+pub returns-after-loop-i-2-clause-passed : goal.returns-after-loop-i-2-clause-passed
+returns-after-loop-i-2-clause-passed g c = passed (down_end c.loop-i-2-test.false) c.loop-i-2.invariant

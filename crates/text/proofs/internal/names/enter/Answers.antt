@@ -1,38 +1,29 @@
 use mathlib.Core.Path.{◌≡◌, sym, ap, ◌∙◌}
-use mathlib.Core.Bool.{not}
-use Prim.Native.Nat.{◌*◌}
-use native.Mathlib.Omega.{arith}
-use lib.ListN.{take, length-set}
-use lib.Seq.{length-take-le}
+use mathlib.Core.Bool.{true, not}
+use lib.Dec.{eqb}
+use Rattle.std.specs.List.{list_any}
 use Rattle.text.specs.Code.{is_new}
-use Rattle.text.proofs.Names.{false_not}
-use Rattle.text.proofs.Entered.{no_name, new_by, numbers_set}
+use Rattle.text.specs.Names.{is_name}
+use Rattle.text.proofs.Names.{name_bytes}
+use Rattle.text.proofs.Entered.{no_name, new_by}
 use Rattle.text.proofs.internal.names.enter.Goals as goal
+use Rattle.text.proofs.internal.names.enter.Goals.{Else-not-is_name, After-contains}
+
+named : (c : Else-not-is_name) → is_name c.args.name.now ≡ true
+named c = sym c.is_name.ensures ∙ c.if-not-is_name.false
 
 -- what the three calls say of the name
-told : (c : goal.Then-is_entered) → let a = c.args in not c.is_entered.result ≡ is_new (take (2 * a.n) a.codes.now) a.name.now
-told c =
-    new_by _ _ c.pack-low.ensures c.pack-high.ensures (sym c.is_name.ensures ∙ c.if-not-is_name.false) c.is_entered.ensures
+told : (c : After-contains) → let a = c.args in not c.contains.result ≡ is_new a.codes.now.items a.name.now
+told c = new_by _ _ (sym c.is_name.ensures ∙ c.if-not-is_name.false) c.pack-code.ensures (c.contains.ensures.value ∙ ap (list_any (λ y. eqb y c.pack-code.result)) c.as_slice.ensures.value)
 
--- what the three calls say of the name
-told_2 : (c : goal.Else-is_entered) → let a = c.args in not c.is_entered.result ≡ is_new (take (2 * a.n) a.codes.now) a.name.now
-told_2 c =
-    new_by _ _ c.pack-low.ensures c.pack-high.ensures (sym c.is_name.ensures ∙ c.if-not-is_name.false) c.is_entered.ensures
+pub returns-then-not-is_name-clause-value : goal.returns-then-not-is_name-clause-value
+returns-then-not-is_name-clause-value c = no_name _ _ (sym c.is_name.ensures ∙ c.if-not-is_name.true)
 
-pub returns-then-not-is_name : goal.returns-then-not-is_name
-returns-then-not-is_name c =
-    record { value = no_name _ _ (sym c.is_name.ensures ∙ c.if-not-is_name.true); codes_after = false_not }
+pub pack-code-requires : goal.pack-code-requires
+pack-code-requires c = (name_bytes _ (named c)).0
 
-pub slice_bounds-is_entered-end-2 : goal.slice_bounds-is_entered-end-2
-slice_bounds-is_entered-end-2 c =
-    sym (length-take-le (2 * c.args.n) c.args.codes.now (omega arith))
+pub returns-then-contains-clause-value : goal.returns-then-contains-clause-value
+returns-then-contains-clause-value c = ap not (sym c.if-contains.true) ∙ told (goal.at.returns-then-contains-clause-value c).After-contains
 
-pub returns-then-is_entered : goal.returns-then-is_entered
-returns-then-is_entered c = record { value = ap not (sym c.if-is_entered.true) ∙ told c; codes_after = false_not }
-
-pub bounds-codes-n-2 : goal.bounds-codes-n-2
-bounds-codes-n-2 c = simp length-set (omega arith)
-
-pub returns : goal.returns
-returns c =
-    record { value = ap not (sym c.if-is_entered.false) ∙ told_2 c; codes_after = λ e. numbers_set c.args.codes.now c.args.name.now c.pack-low.ensures c.pack-high.ensures c.args.n c.requires }
+pub returns-clause-value : goal.returns-clause-value
+returns-clause-value c = ap not (sym c.if-contains.false) ∙ told (goal.at.returns-clause-value c).After-contains

@@ -1,90 +1,57 @@
-use mathlib.Core.Path.{◌≡◌, refl, sym, ◌∙◌}
-use Prim.Native.Nat.{◌*◌}
+use mathlib.Core.Path.{◌≡◌, sym, ap, ◌∙◌}
+use mathlib.Core.Bool.{true}
 use native.Mathlib.Omega.{arith}
-use lib.ListN.{take}
-use Rattle.search.specs.declared.Found.TheVariants.{Nothing}
+use lib.ListN.{drop}
+use Rattle.std.specs.Prelude.{None, is_some}
 use Rattle.search.specs.First.{first_from}
 use Rattle.search.proofs.Answer.{FirstAt, first_at}
+use Rattle.text.specs.Code.{is_new}
 use Rattle.text.proofs.Parts.{to_end, parts_at, parts_none}
 use Rattle.text.proofs.Entered.{short_to, short_last, none_entered, too_many, refused, last_entered, next_entered}
 use Rattle.text.proofs.internal.names.read_names.Goals as goal
+use Rattle.text.proofs.internal.names.read_names.Goals.{In_default, In_ok-enter, In-Some}
 
 -- where the search found the end of a part
-found : (k : goal.In-At) → FirstAt k.args.line.now k.loop-n.at 59 k.in-At.e
-found k = first_at (k.first.ensures.value, k.first.ensures.within) k.in-At.is
-
--- where the search found the end of a part
-found_2 : (k : goal.Then-not-enter) → FirstAt k.args.line.now k.loop-n.at 59 k.in-At.e
-found_2 k = first_at (k.first.ensures.value, k.first.ensures.within) k.in-At.is
-
--- where the search found the end of a part
-found_3 : (k : goal.Else-not-enter) → FirstAt k.args.line.now k.loop-n.at 59 k.in-At.e
-found_3 k = first_at (k.first.ensures.value, k.first.ensures.within) k.in-At.is
+found : (c : In-Some) → FirstAt c.args.line.now c.loop-n.at 59 c.in-Some.stop
+found c = first_at (c.first.ensures.value, c.first.ensures.within) c.in-Some.is
 
 -- the last part
-ended : (n : goal.Then-enter) → first_from n.args.line.now n.loop-n.at 59 ≡ Nothing
-ended n = sym n.first.ensures.value ∙ n.in-Nothing.is
+ended : (c : In_default) → first_from c.args.line.now c.loop-n.at 59 ≡ None
+ended c = sym c.first.ensures.value ∙ c.in_default.is
 
--- the last part
-ended_2 : (n : goal.Else-enter) → first_from n.args.line.now n.loop-n.at 59 ≡ Nothing
-ended_2 n = sym n.first.ensures.value ∙ n.in-Nothing.is
+last : (c : In_ok-enter) → is_new c.loop-n.codes.items (drop c.loop-n.at c.args.line.now) ≡ true
+last c = sym (rw to_end at c.enter.ensures.value) ∙ ap is_some c.in_ok-enter.was
 
 pub loop-n-init : goal.loop-n-init
-loop-n-init c = (refl, omega arith, omega arith, none_entered _ _)
+loop-n-init c = (omega arith, omega arith, rw c.new-codes.ensures (none_entered _))
 
-pub slice_bounds-enter-count : goal.slice_bounds-enter-count
-slice_bounds-enter-count c = (found c).low
+pub returns-in_err-enter-clause-value : goal.returns-in_err-enter-clause-value
+returns-in_err-enter-clause-value c =
+    let n = sym (rw to_end at c.enter.ensures.value) ∙ ap is_some c.in_err-enter.was in
+    c.from_residual.ensures ∙ sym (refused c.loop-n.invariant.2 (parts_none _ _ _ (ended (goal.at.returns-in_err-enter-clause-value c).In_default)) n)
 
-pub slice_bounds-enter-end-in-At : goal.slice_bounds-enter-end-in-At
-slice_bounds-enter-end-in-At c = sym c.loop-n.invariant.0
+pub returns-in_default-clause-value : goal.returns-in_default-clause-value
+returns-in_default-clause-value c =
+    sym (last_entered c.loop-n.invariant.2 _ (last c) (parts_none _ _ _ (ended (goal.at.returns-in_default-clause-value c).In_default)) c.loop-n-test.true)
 
-pub enter-requires : goal.enter-requires
-enter-requires c = omega arith
-
-pub returns-then-not-enter : goal.returns-then-not-enter
-returns-then-not-enter c =
-    record { value = sym (refused c.loop-n.invariant.3 (parts_at _ _ _ _ (found_2 c).is) (sym c.enter.ensures.value ∙ c.if-not-enter.true)); few = tt }
-
-pub overflow_add-at : goal.overflow_add-at
-overflow_add-at c = omega (arith, found_3 c)
-
-pub slice_bounds-enter-count-in-Nothing : goal.slice_bounds-enter-count-in-Nothing
-slice_bounds-enter-count-in-Nothing c = omega arith
-
-pub slice_bounds-enter-end-in-Nothing-2 : goal.slice_bounds-enter-end-in-Nothing-2
-slice_bounds-enter-end-in-Nothing-2 c = sym c.loop-n.invariant.0
-
-pub enter-requires-in-Nothing : goal.enter-requires-in-Nothing
-enter-requires-in-Nothing c = omega arith
-
-pub overflow_add-result : goal.overflow_add-result
-overflow_add-result c = omega arith
-
-pub returns-then-enter : goal.returns-then-enter
-returns-then-enter c =
+pub returns-in_default-clause-few : goal.returns-in_default-clause-few
+returns-in_default-clause-few c =
     let a = c.loop-n in
-    let h = sym (rw to_end at c.enter-in-Nothing.ensures.value) ∙ c.if-enter.true in
-    record { value = sym (last_entered a.invariant.3 _ h (parts_none _ _ _ (ended c)) c.loop-n-test.true); few = (omega arith, omega arith, omega (arith, short_last (take (2 * a.n) a.codes) c.args.line.now a.at h)) }
+    (omega arith, omega arith, omega (arith, short_last a.codes.items c.args.line.now a.at (last c)))
 
-pub returns-in-Nothing : goal.returns-in-Nothing
-returns-in-Nothing c =
-    record { value = sym (refused c.loop-n.invariant.3 (parts_none _ _ _ (ended_2 c)) (sym (rw to_end at c.enter-in-Nothing.ensures.value) ∙ c.if-enter.false)); few = tt }
-
-pub overflow_step-n : goal.overflow_step-n
-overflow_step-n c = omega arith
-
-pub loop-n-smaller : goal.loop-n-smaller
-loop-n-smaller c = omega arith
+pub returns-in_err-enter-2-clause-value : goal.returns-in_err-enter-2-clause-value
+returns-in_err-enter-2-clause-value c =
+    let n = sym c.enter-in-loop-n.ensures.value ∙ ap is_some c.in_err-enter-2.was in
+    c.from_residual-in_err-enter-2.ensures ∙ sym (refused c.loop-n.invariant.2 (parts_at _ _ _ _ (found (goal.at.returns-in_err-enter-2-clause-value c).In-Some).is) n)
 
 pub loop-n-preserved : goal.loop-n-preserved
 loop-n-preserved c =
-    let t = c.if-not-enter.false in
-    let h = sym c.enter.ensures.value ∙ t in (
-      c.enter.auto.codes ∙ c.loop-n.invariant.0,
-      omega (arith, found_3 c),
-      omega (arith, short_to _ _ _ _ (found_3 c).high h),
-      next_entered c.loop-n.invariant.3 _ h (parts_at _ _ _ _ (found_3 c).is) (c.enter.ensures.codes_after t),
+    let f = found (goal.at.loop-n-preserved c).In-Some in
+    let h = sym c.enter-in-loop-n.ensures.value ∙ ap is_some c.in_ok-enter-2.was in (
+      omega (arith, f),
+      omega (arith, short_to _ _ _ _ f.high h),
+      next_entered c.loop-n.invariant.2 _ h (parts_at _ _ _ _ f.is) c.in_ok-enter-2.ensures.codes_after,
     )
 
-pub returns : goal.returns
-returns c = record { value = sym (too_many c.loop-n.invariant.3 c.loop-n-test.false); few = tt }
+pub returns-clause-value : goal.returns-clause-value
+returns-clause-value c = sym (too_many c.loop-n.invariant.2 c.loop-n-test.false)

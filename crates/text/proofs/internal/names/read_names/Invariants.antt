@@ -1,12 +1,8 @@
-use mathlib.Core.Path.{◌≡◌}
-use Prim.Native.Nat.{◌-◌, ◌*◌, ◌≤◌}
+use Prim.Native.Nat.{◌*◌, ◌≤◌}
 use lib.ListN.{length}
 use Rattle.text.proofs.Entered.{Entered}
 use Rattle.text.proofs.internal.names.read_names.Given as goal
 
 -- a name and the byte after it take 17 bytes at most
 abbrev pub invariant-loop-n : goal.invariant-loop-n
-invariant-loop-n l = (length l.codes ≡ 64) × (l.at ≤ length l.line) × (l.at ≤ 17 * l.n) × Entered l.line l.at l.n l.codes
-
-abbrev pub decreases-loop-n : goal.decreases-loop-n
-decreases-loop-n l = 32 - l.n
+invariant-loop-n l = (l.at ≤ length l.line) × (l.at ≤ 17 * l.n) × Entered l.line l.at l.n l.codes.items

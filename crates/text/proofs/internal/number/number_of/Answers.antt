@@ -1,41 +1,29 @@
-use mathlib.Core.Path.{ap, sym, subst, ◌∙◌}
-use mathlib.Core.Option.{Option, some, bind}
-use Prim.Native.Nat.{◌≤◌}
+use mathlib.Core.Path.{sym, ap, ◌∙◌}
 use native.Mathlib.Omega.{arith}
 use lib.IntN.{ℤ}
-use Rattle.text.specs.Code.{magnitude_of, short}
-use Rattle.text.proofs.Number.{number_none, number_below, number_plain, units_fit, units_read}
+use Rattle.std.specs.Prelude.{Option, Some}
+use Rattle.text.proofs.Number.{number_none, number_below, number_plain, below_zero, below_some, units_read, turned_read}
 use Rattle.text.proofs.internal.number.number_of.Goals as goal
 
--- what bytes without a '-' have is short
-few : (c : goal.In-Digits-unsigned) → c.in-Digits-unsigned.m ≤ 9_999_999_999
-few c = subst short c.in-Digits-unsigned.is c.unsigned-2.ensures.short
+pub returns-in_err-first : goal.returns-in_err-first
+returns-in_err-first c = c.from_residual.ensures ∙ number_none _ c.in_err-first.ensures.cases
 
-pub returns-then-s-lt1 : goal.returns-then-s-lt1
-returns-then-s-lt1 c = number_none _ c.if-s-lt1.true
+pub returns-in_err-unsigned : goal.returns-in_err-unsigned
+returns-in_err-unsigned c =
+    c.from_residual-in_err-unsigned.ensures ∙ number_plain c.in_ok-first.ensures.cases.0 c.if-first-ne45.true (sym c.in_err-unsigned.was ∙ c.unsigned.ensures.value)
 
-pub negative-requires : goal.negative-requires
-negative-requires c = subst short c.in-Digits.is c.unsigned.ensures.short
+pub returns-then-first-ne45 : goal.returns-then-first-ne45
+returns-then-first-ne45 c =
+    ap {B = Option ℤ} Some (units_read _ c.in_ok-unsigned.ensures.short) ∙ number_plain c.in_ok-first.ensures.cases.0 c.if-first-ne45.true (sym c.in_ok-unsigned.was ∙ c.unsigned.ensures.value)
 
-pub returns-in-Digits : goal.returns-in-Digits
-unfolding bind
-returns-in-Digits c =
-    c.negative.ensures ∙ number_below _ _ (omega arith) c.if-s-eq45.true (sym c.unsigned.ensures.result_value ∙ ap magnitude_of c.in-Digits.is)
+pub returns-in_err-m : goal.returns-in_err-m
+returns-in_err-m c =
+    c.from_residual-in_err-m.ensures ∙ number_below c.in_ok-first.ensures.cases.0 c.if-first-ne45.false (sym c.in_err-m.was ∙ c.unsigned-2.ensures.value)
 
-pub returns-in-Other : goal.returns-in-Other
-unfolding bind
-returns-in-Other c =
-    number_below _ _ (omega arith) c.if-s-eq45.true (sym c.unsigned.ensures.result_value ∙ ap magnitude_of c.in-Other.is)
+pub returns-in-0 : goal.returns-in-0
+returns-in-0 c =
+    below_zero _ c.in-0.is ∙ number_below c.in_ok-first.ensures.cases.0 c.if-first-ne45.false (sym c.in_ok-m.was ∙ c.unsigned-2.ensures.value)
 
-pub overflow_cast-result : goal.overflow_cast-result
-overflow_cast-result c = units_fit _ (few c)
-
-pub returns-in-Digits-unsigned : goal.returns-in-Digits-unsigned
-unfolding bind
-returns-in-Digits-unsigned c =
-    ap {B = Option ℤ} some (units_read _ (few c)) ∙ number_plain _ _ (omega arith) c.if-s-eq45.false (sym c.unsigned-2.ensures.result_value ∙ ap magnitude_of c.in-Digits-unsigned.is)
-
-pub returns-in-Other-unsigned : goal.returns-in-Other-unsigned
-unfolding bind
-returns-in-Other-unsigned c =
-    number_plain _ _ (omega arith) c.if-s-eq45.false (sym c.unsigned-2.ensures.result_value ∙ ap magnitude_of c.in-Other-unsigned.is)
+pub returns-in_default : goal.returns-in_default
+returns-in_default c =
+    ap {B = Option ℤ} Some (turned_read _ c.in_ok-m.ensures.short) ∙ below_some _ (omega arith) ∙ number_below c.in_ok-first.ensures.cases.0 c.if-first-ne45.false (sym c.in_ok-m.was ∙ c.unsigned-2.ensures.value)

@@ -1,19 +1,11 @@
-use mathlib.Core.Path.{◌∙◌}
-use native.Mathlib.Omega.{arith}
-use Rattle.text.proofs.Number.{magnitude_none, magnitude_long, magnitude_padded, magnitude_zero, magnitude_digits}
+use Rattle.text.proofs.Number.{magnitude_out, magnitude_padded, magnitude_digits}
 use Rattle.text.proofs.internal.number.unsigned.Goals as goal
 
-pub returns-then-s-lt1 : goal.returns-then-s-lt1
-returns-then-s-lt1 c = record { result_value = magnitude_none _ c.if-s-lt1.true; short = tt }
+pub returns-then-s-lt1-clause-value : goal.returns-then-s-lt1-clause-value
+returns-then-s-lt1-clause-value c = magnitude_out _ c.then-s-lt1.either
 
-pub returns-then-s-gt10 : goal.returns-then-s-gt10
-returns-then-s-gt10 c = record { result_value = magnitude_long _ c.if-s-gt10.true; short = tt }
+pub returns-then-s-ne1-clause-value : goal.returns-then-s-ne1-clause-value
+returns-then-s-ne1-clause-value c = magnitude_padded _ c.if-s-lt1.false c.if-s-gt10.false c.if-s-eq48.true c.if-s-ne1.true
 
-pub returns-then-s-ne1 : goal.returns-then-s-ne1
-returns-then-s-ne1 c = record { result_value = magnitude_padded _ (omega arith) (omega arith) c.if-s-eq48.true c.if-s-ne1.true; short = tt }
-
-pub returns-then-s-eq48 : goal.returns-then-s-eq48
-returns-then-s-eq48 c = record { result_value = magnitude_zero _ c.if-s-eq48.true c.if-s-ne1.false; short = omega arith }
-
-pub returns : goal.returns
-returns c = record { result_value = c.all_digits.ensures.result_value ∙ magnitude_digits _ (omega arith) (omega arith) c.if-s-eq48.false; short = c.all_digits.ensures.short }
+pub returns-clause-value : goal.returns-clause-value
+returns-clause-value c = rw c.all_digits.ensures.value (magnitude_digits _ c.if-s-lt1.false c.if-s-gt10.false c.else-s-eq48.either)

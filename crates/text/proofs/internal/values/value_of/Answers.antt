@@ -1,34 +1,28 @@
-use mathlib.Core.Path.{sym, ◌∙◌}
-use native.Mathlib.Omega.{arith}
-use lib.Seq.{length-take-le}
-use Rattle.search.proofs.Answer.{FirstAt, first_at}
-use Rattle.text.proofs.Values.{value_none, value_ends}
+use mathlib.Core.Path.{refl, sym, ap, ◌∙◌}
+use mir.Syntax.{w64}
+use mir.Val.{SFits}
+use borrow.Author.Rules.{rules}
+use Rattle.std.specs.Prelude.{Some, None, option_map}
+use Rattle.text.specs.Code.{both}
+use Rattle.text.proofs.Values.{value_none, value_ends, ends_kept}
 use Rattle.text.proofs.internal.values.value_of.Goals as goal
 
--- the ':' stands in the field
-found : (a : goal.In-At) → FirstAt a.args.field.now 0 58 a.in-At.c
-found a = first_at (a.first.ensures.value, a.first.ensures.within) a.in-At.is
+pub returns-in_err-colon : goal.returns-in_err-colon
+returns-in_err-colon c =
+    ap (option_map both) c.from_residual.ensures ∙ value_none _ (sym c.first.ensures.value ∙ c.in_err-colon.was)
 
--- the ':' stands in the field
-found_2 : (a : goal.After-number_of-lower) → FirstAt a.args.field.now 0 58 a.in-At.c
-found_2 a = first_at (a.first.ensures.value, a.first.ensures.within) a.in-At.is
+pub returns-in_err-lo : goal.returns-in_err-lo
+returns-in_err-lo c =
+    ap (option_map both) c.from_residual-in_err-lo.ensures ∙ value_ends _ None _ (sym c.first.ensures.value ∙ c.in_ok-colon.was) (sym c.in_err-lo.was ∙ c.number_of.ensures) refl
 
--- the ':' stands in the field
-found_3 : (a : goal.After-both_ends) → FirstAt a.args.field.now 0 58 a.in-At.c
-found_3 a = first_at (a.first.ensures.value, a.first.ensures.within) a.in-At.is
+pub returns-in_err-hi : goal.returns-in_err-hi
+returns-in_err-hi c =
+    ap (option_map both) c.from_residual-in_err-hi.ensures
+    ∙ value_ends _ (Some c.in_ok-lo.lo) None (sym c.first.ensures.value ∙ c.in_ok-colon.was) (sym c.in_ok-lo.was ∙ c.number_of.ensures) (sym c.in_err-hi.was ∙ c.number_of-2.ensures)
 
-pub slice_bounds-number_of-end : goal.slice_bounds-number_of-end
-slice_bounds-number_of-end c = sym (length-take-le _ _ (omega (arith, found c)))
-
-pub overflow_add-c : goal.overflow_add-c
-overflow_add-c c = omega (arith, found_2 c)
-
-pub slice_bounds-number_of-count : goal.slice_bounds-number_of-count
-slice_bounds-number_of-count c = omega (arith, found_2 c)
-
-pub returns-in-At : goal.returns-in-At
-returns-in-At c =
-    value_ends _ _ _ (found_3 c).is c.number_of-lower.ensures c.number_of-upper.ensures c.both_ends.ensures
-
-pub returns-in-Nothing : goal.returns-in-Nothing
-returns-in-Nothing c = value_none _ (sym c.first.ensures.value ∙ c.in-Nothing.is)
+pub returns : goal.returns
+returns c =
+    let l : SFits w64 c.in_ok-lo.lo = search rules in
+    let u : SFits w64 c.in_ok-hi.hi = search rules in
+    ends_kept l u
+    ∙ value_ends _ (Some c.in_ok-lo.lo) (Some c.in_ok-hi.hi) (sym c.first.ensures.value ∙ c.in_ok-colon.was) (sym c.in_ok-lo.was ∙ c.number_of.ensures) (sym c.in_ok-hi.was ∙ c.number_of-2.ensures)

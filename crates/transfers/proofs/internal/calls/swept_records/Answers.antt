@@ -1,35 +1,45 @@
-use mathlib.Core.Path.{◌≡◌, sym, ◌∙◌}
-use lib.ListN.{length}
-use Rattle.inputs.specs.declared.Test.TheVariants.{Pass}
-use Rattle.sweep.specs.Call.{allowance}
-use Rattle.transfers.specs.Listing.{Listing, listing, sizes, transfers_of}
-use Rattle.transfers.proofs.Call.{over_sizes, over_allowed, refuses}
+use Rattle.std.proofs.Common.{rules, arith}
+use Rattle.sweep.proofs.Tests.{ready as system_ready}
+use Rattle.transfers.specs.Listing.{Listing, listing, squared, transfers_of}
+use Rattle.transfers.proofs.Records.{length_transfers}
+use Rattle.transfers.proofs.Call.{SweepReady, sweep_ready, call_fails, call_runs}
 use Rattle.transfers.proofs.internal.calls.swept_records.Goals as goal
+use Rattle.transfers.proofs.internal.calls.swept_records.Goals.{In-Ok}
 
-abbrev lent : goal.After-refused-in-Fail-k → Listing
+-- ---- what the tests say when they pass
+abbrev lent : In-Ok → Listing
 lent c = listing c.args.n (transfers_of c.args.rs.now) c.args.b.now
 
-abbrev lent_2 : goal.After-sweep_sized-arg-1 → Listing
-lent_2 c = listing c.args.n (transfers_of c.args.rs.now) c.args.b.now
+told : (c : In-Ok) → SweepReady (lent c) c.args.allowed c.args.bounds.now
+told c = sweep_ready _ _ _ c.in-Ok.ensures.0
 
--- tests 1 and 2 have passed
-sized : (c : goal.After-refused-in-Fail-k) → sizes (lent c) (length c.args.bounds.now) ≡ Pass
-sized c = sym c.sizes-s.ensures ∙ c.in_default.is
+pub are_above-requires : goal.are_above-requires
+are_above-requires c =
+    let t = told (goal.at.are_above-requires c).In-Ok in
+    let f = t.fitting in
+    (f.box, f.few, (system_ready _ _ _ t.tests).box_sound)
 
-sized_2 : (c : goal.After-sweep_sized-arg-1) → sizes (lent_2 c) (length c.args.bounds.now) ≡ Pass
-sized_2 c = sym c.sizes-s.ensures ∙ c.in_default.is
+pub invariant_of-rows : goal.invariant_of-rows
+invariant_of-rows c =
+    let p = (goal.at.invariant_of-rows c).In-Ok in
+    let f = (told p).fitting in
+    record {
+      few = f.few;
+      list = omega (arith, f.short, length_transfers c.args.rs.now);
+      room = search rules;
+      range = c.in-Ok.ensures.2;
+      rows = c.in-Ok.ensures.1;
+    }
 
--- test 4 has passed
-allowed : (c : goal.After-sweep_sized-arg-1) → allowance c.args.allowed ≡ Pass
-allowed c = sym c.budget-k.ensures ∙ c.in_default-k.is
+pub run-requires : goal.run-requires
+run-requires c =
+    let p = (goal.at.run-requires c).In-Ok in
+    record { ready = system_ready (squared (lent p)) _ _ (told p).tests; signs = c.are_above.ensures }
 
-pub returns-in-Fail : goal.returns-in-Fail
-returns-in-Fail c = refuses c.refused.ensures (over_sizes _ _ _ _ (sym c.sizes-s.ensures ∙ c.in-Fail.is))
+pub returns-in-Ok : goal.returns-in-Ok
+returns-in-Ok c =
+    let p = (goal.at.returns-in-Ok c).In-Ok in
+    call_runs (lent p) _ c.args.way _ c.in-Ok.ensures.0 c.run.ensures
 
-pub returns-in-Fail-k : goal.returns-in-Fail-k
-returns-in-Fail-k c =
-    refuses c.refused-in-Fail-k.ensures (over_allowed _ _ _ _ (sized c) (sym c.budget-k.ensures ∙ c.in-Fail-k.is))
-
-pub sweep_sized-requires : goal.sweep_sized-requires
-sweep_sized-requires c =
-    (sized_2 c, allowed c, c.requires)
+pub returns-in-Err : goal.returns-in-Err
+returns-in-Err c = call_fails _ _ c.args.way _ c.in-Err.ensures

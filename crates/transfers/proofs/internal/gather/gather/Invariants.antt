@@ -1,9 +1,6 @@
-use Rattle.std.proofs.Common.{◌≡◌, ◌++◌, ◌-◌, ◌≤◌, take, drop}
+use Rattle.std.proofs.Common.{◌≡◌, ◌++◌, take, drop}
 use Rattle.transfers.specs.Code.{records_of}
 use Rattle.transfers.proofs.internal.gather.gather.Given as goal
 
 abbrev pub invariant-loop-k : goal.invariant-loop-k
-invariant-loop-k l = (l.k ≤ l.n) × (l.rs ≡ records_of (take l.k l.ts) ++ drop l.k l.initial.rs)
-
-abbrev pub decreases-loop-k : goal.decreases-loop-k
-decreases-loop-k l = l.n - l.k
+invariant-loop-k l = l.rs ≡ records_of (take l.k l.t-items) ++ drop l.k l.initial.rs

@@ -1,8 +1,0 @@
-use mathlib.Core.Path.{ap₂, ◌∙◌}
-use Rattle.interval.specs.Answer.{quotient_answer}
-use Rattle.capi.proofs.Ends.{read_ends}
-use Rattle.capi.proofs.steps.kifwaleb_quotient.Goals as goal
-
-pub returns : goal.returns
-returns c =
-    c.flat.ensures ∙ c.quotient.ensures ∙ ap₂ quotient_answer (read_ends c.ranges.a_lo c.ranges.a_hi) (read_ends c.ranges.b_lo c.ranges.b_hi)

@@ -1,5 +1,0 @@
-use Rattle.wide_sum.proofs.Joined.{both_joined}
-use Rattle.wide_sum.proofs.internal.sum.joined_both.Goals as goal
-
-pub returns : goal.returns
-returns c = both_joined c.joined.ensures c.joined-2.ensures
