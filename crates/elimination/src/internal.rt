@@ -1,3 +1,3 @@
-// The calculation, after the tests.
+// The calculation, after the tests. n and the working copy stay two parameters, as in the forward part.
 pub mod back;
 pub mod solve;

@@ -20,7 +20,7 @@ pub fn eliminate(n: usize, a: &[i64], f: &[i64], bounds: &mut [i64]) -> Result<(
     solve(n, a, f, bounds)
 }
 
-// Eliminates from B and b: bounds on the solutions of x = B·x + b, in the lent box.
+// Eliminates from B and b: bounds on the solutions of x = B·x + b, in the lent box. Document 01 has two calls, which callers and C know by name.
 pub fn eliminate_balance(
     n: usize,
     b_matrix: &[i64],

@@ -39,7 +39,7 @@ module _ (s : System) (X t : List ℤ) where
     load_done e f = rw (eq-eqb (length t) state_length h, e, f)
 
 -- ---- the half pass that is due
-due_some : (back : Bool) → eqb (due back) 0 ≡ false
+pub due_some : (back : Bool) → eqb (due back) 0 ≡ false
 unfolding due
 due_some true = refl
 due_some false = refl
@@ -48,6 +48,11 @@ due_back : (back : Bool) → eqb (due back) (due true) ≡ back
 unfolding due
 due_back true = refl
 due_back false = refl
+
+-- ---- a state of another length
+pub size_short : (t : List ℤ) → length t ≢ state_length → size_of t ≡ 0
+unfolding size_of
+size_short t h = rw (ne_eqb (length t) state_length h)
 
 -- ---- a half pass
 module _ (back : Bool) (t : List ℤ) where

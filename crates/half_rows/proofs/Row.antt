@@ -1,13 +1,13 @@
 -- The half row of a row: where it lies, and that its sums are the row's.
-use mathlib.Core.Path.{◌≡◌, refl, sym, ap, ap₂, subst, ◌∙◌}
+use mathlib.Core.Path.{◌≡◌, refl, ap, ap₂, subst, ◌∙◌}
 use mathlib.Core.Bool.{Bool, true, false, ◌&&◌}
 use mathlib.Core.List.{List}
 use Prim.Native.Nat.{ℕ, zero, suc, ◌+◌, ◌-◌, ◌*◌, ◌≤◌, ◌<◌}
 use native.Mathlib.Omega.{arith}
 use lib.IntN.{ℤ, pos}
-use lib.ListN.{length, get_or, take, drop, length-drop}
-use lib.Seq.{length-take-le, get_or-take, get_or-drop}
-use Rattle.std.specs.Prelude.{Option, is_ok, Ok, Err}
+use lib.ListN.{get_or, take, drop}
+use lib.Seq.{get_or-take, get_or-drop}
+use Rattle.std.specs.Prelude.{Option, is_ok}
 use Rattle.interval.specs.declared.Interval.{Interval}
 use Rattle.interval.specs.Interval.{zero as zeroInterval, scale, exact_sum, exact_product, rounded, intersection}
 use Rattle.interval.proofs.Range.{same_ends}
@@ -92,21 +92,9 @@ half_is back n i m r {f} {d} e g =
     let l : 2 * (i * n + f + (d + 1)) - 2 * (i * n + f) ≡ 2 * (d + 1) = omega arith in
     rw (l, e, g)
 
-pub half_length : (m : List ℤ) (p d : ℕ) → 2 * (p + (d + 1)) ≤ length m → length (take (2 * (p + (d + 1)) - 2 * p) (drop (2 * p) m)) ≡ 2 * (d + 1)
-half_length m p d h =
-    let l : 2 * (p + (d + 1)) - 2 * p ≡ 2 * (d + 1) = omega arith in
-    rw l (length-take-le (2 * (d + 1)) (drop (2 * p) m) (rw (length-drop (2 * p) m) (omega arith)))
-
 -- ---- a row's answer
 pub not_tested : (t : Test) (b : Bool) → is_ok t ≡ false → (is_ok t && b) ≡ false
 not_tested t b e = rw e
-
-pub not_ready : (t : Test) {b : Bool} → b ≡ false → (is_ok t && b) ≡ false
-not_ready (Ok _) e = e
-not_ready (Err o) e = refl
-
-pub stepped_ready : (t : Test) {b : Bool} (v u : Interval) → b ≡ true → (s : Option (Interval × WideInterval)) → Stepped t true v u s → Stepped t b v u s
-stepped_ready t {b} v u f s h = subst (λ (y : Bool). Stepped t y v u s) (sym f) h
 
 pub stepped_half : (back : Bool) (sys : System) (X : List ℤ) (i : ℕ) → i < sys.size → (b : Bool) (k : Interval) (s : Option (Interval × WideInterval)) → {h : List ℤ} → h ≡ half_row back sys i
     → Stepped (proper h (beside back sys.size i + 1) 0 0) b (joined_on back sys.size h sys.right X i k) (side_on back sys.size h X i) s

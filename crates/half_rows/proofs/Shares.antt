@@ -46,9 +46,6 @@ one_share g e (suc j) h = absurd (omega arith)
 pub sound_shares : (g : List ℤ) (d : ℕ) → Sound g → AllShares g 0 d
 sound_shares g d s j h = s.each (0 + j)
 
-pub no_share : (g : List ℤ) (p d : ℕ) → p < d → acceptable (at g p) ≡ false → NoShare g 0 d
-no_share g p d h e = let f : 0 + p ≡ p = omega arith in record { place = p; below = h; none = ap (λ (r : ℕ). acceptable (at g r)) f ∙ e }
-
 -- ---- a part, as the code has it
 pub part_is : (h : List ℤ) (a l : ℕ) → take (a + l - a) (drop a h) ≡ part h a l
 part_is h a l = let e : a + l - a ≡ l = omega arith in rw e
@@ -168,9 +165,6 @@ module _ (acc : WideInterval) (h : List ℤ) (a : ℕ) (x : List ℤ) (q : ℕ) 
     single_is =
         let y : a + 0 ≡ a = omega arith in
         (single f).1.is ∙ exactly_part h a 1 0 x q 1 0 (held_both acc) (omega arith) ∙ ap (λ (p : ℕ). exactly h p x q 1 0 (held_both acc)) y
-
-    pub single_near : NearBoth 32 acc → NearBoth 33 s
-    single_near n = near_both_more (omega arith) ((single f).1.near 32 n)
 
 -- ---- the whole half row: the side behind, and the diagonal
 fails : (h : List ℤ) (l p : ℕ) → p < l → acceptable (at h p) ≡ false → is_ok (proper h l 0 0) ≡ false

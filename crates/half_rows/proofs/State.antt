@@ -2,13 +2,10 @@
 use mathlib.Core.Path.{◌≡◌, refl}
 use mathlib.Core.Logic.{◌≢◌}
 use mathlib.Core.Bool.{Bool, true, false, not}
-use mathlib.Core.List.{List}
 use Prim.Native.Nat.{ℕ, ◌+◌, ◌≤◌}
 use native.Mathlib.Omega.{arith}
 use denote.Enum.Declared.{tag_of}
-use lib.IntN.{ℤ, pos, ◌+ℤ◌}
-use lib.ListN.{length, drop, length-drop}
-use lib.Seq.{length-take-le}
+use lib.IntN.{pos, ◌+ℤ◌}
 use mir.Syntax.{w64}
 use mir.Val.{to_z, of_z}
 use Rattle.std.specs.Prelude.{Option, Some, None}
@@ -17,14 +14,10 @@ use Rattle.half_rows.specs.contracts.internal.way.Way.{the_type}
 use Rattle.half_rows.specs.contracts.internal.way.WayPartialEq.TheImpl.{eq-value}
 use Rattle.half_rows.specs.declared.internal.way.Way.{Way}
 use Rattle.half_rows.specs.declared.internal.way.Way.TheVariants.{Up, Down}
-use Rattle.half_rows.specs.Rows.{part}
 use Rattle.half_rows.specs.State.{sums_place, due}
 use Rattle.half_rows.specs.Code.{is_back}
 
 -- ---- parts
-pub part_length : (t : List ℤ) (from count : ℕ) → from + count ≤ length t → length (part t from count) ≡ count
-part_length t from count h = length-take-le count (drop from t) (rw (length-drop from t) (omega arith))
-
 pub sums_end : (back : Bool) → sums_place back + 128 ≤ 386
 unfolding sums_place
 sums_end true = omega arith

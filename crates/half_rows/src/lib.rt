@@ -29,9 +29,7 @@ pub fn load(
     ensures { answered result state.new ≡
         operate (load (system n b_matrix.now b.now) bounds.now) state.old }
 {
-    if state.len() != LENGTH {
-        return Err(Refusal::NotDue);
-    }
+    let state = state.as_mut_array::<LENGTH>().ok_or(Refusal::NotDue)?;
     tested(n, b_matrix, b, bounds, 1)?;
     let load = Load {
         n,
@@ -47,6 +45,7 @@ pub fn load(
 fn half_pass(state: &mut [i64], way: Way) -> Result<(), Refusal>
     ensures { answered result state.new ≡ operate (half_pass (is_back way)) state.old }
 {
+    let state = state.as_mut_array::<LENGTH>().ok_or(Refusal::NotDue)?;
     let n = size(state).ok_or(Refusal::NotDue)?;
     if turn(state) != Some(way) {
         return Err(Refusal::NotDue);
@@ -61,7 +60,7 @@ pub fn half_up(state: &mut [i64]) -> Result<(), Refusal>
     half_pass(state, Way::Up)
 }
 
-// The half pass from vat n to 1. Up is due then.
+// The half pass from vat n to 1. Up is due then. Two names for two ways, since callers and C know the two calls by name.
 pub fn half_down(state: &mut [i64]) -> Result<(), Refusal>
     ensures { answered result state.new ≡ operate (half_pass true) state.old }
 {
@@ -72,6 +71,7 @@ pub fn half_down(state: &mut [i64]) -> Result<(), Refusal>
 pub fn narrow(state: &mut [i64], component: usize, lo: i64, hi: i64) -> Result<(), Refusal>
     ensures { answered result state.new ≡ operate (narrowing component (ends lo hi)) state.old }
 {
+    let state = state.as_mut_array::<LENGTH>().ok_or(Refusal::NotDue)?;
     let n = size(state).ok_or(Refusal::NotDue)?;
     let way = turn(state).ok_or(Refusal::NotDue)?;
     if component < 1 || n < component {

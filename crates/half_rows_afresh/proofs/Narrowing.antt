@@ -5,7 +5,7 @@ use mathlib.Core.List.{List}
 use Prim.Native.Nat.{ℕ, ◌+◌, ◌-◌, ◌≤◌, ◌<◌}
 use native.Mathlib.Omega.{arith}
 use borrow.Author.Tests.{eq-eqb, leb-true}
-use lib.Dec.{eqb, leb}
+use lib.Dec.{leb}
 use lib.IntN.{ℤ}
 use Rattle.outcome.specs.declared.Refusal.TheVariants as refusal
 use Rattle.outcome.specs.Run.{refused, done, and_then}
@@ -18,8 +18,9 @@ use Rattle.inputs.proofs.Place.{length_put, sound_put}
 use Rattle.sweep.specs.Code.{Ready}
 use Rattle.sweep.proofs.Pass.{intersection_accepted, ready_after}
 use Rattle.half_rows.specs.Rows.{first, beside, renew}
-use Rattle.half_rows.specs.State.{size_of, due, with_box, with_sums}
+use Rattle.half_rows.specs.State.{size_of, with_box, with_sums}
 use Rattle.half_rows.specs.Operations.{narrowed_to, narrowed_of, narrow_run}
+use Rattle.half_rows.proofs.Calls.{due_some}
 use Rattle.half_rows_afresh.specs.Afresh.{held, held_in, afresh_narrowing}
 use Rattle.half_rows_afresh.proofs.Renewed.{renew_kept}
 use Rattle.half_rows_afresh.proofs.Loaded.{Loaded, Good, blank, full, due_back, not_not, nothing_in, not_nought, loaded_in, written_loaded}
@@ -59,16 +60,11 @@ module _ (back : Bool) {t : List ℤ} {s : System} {X K : List ℤ} (l : Loaded 
       go false e = narrowed_to_lem e
 
 -- ---- the tests before it
-turn_some : (back : Bool) → eqb (due back) 0 ≡ false
-unfolding due
-turn_some true = refl
-turn_some false = refl
-
 module _ (back : Bool) {t : List ℤ} {s : System} {X K : List ℤ} (l : Loaded t s (not back) X K) (vat : ℕ) (w : Interval) where
   loaded_does : Does (narrow_run vat w t) (afresh_narrowing vat w (held s (not (not back)) X))
   unfolding narrow_run afresh_narrowing
   loaded_does =
-      rw (not_nought l, l.turn, turn_some (not (not back)), due_back (not back), l.size, not_not back) (go (leb 1 vat && leb vat s.size) refl)
+      rw (not_nought l, l.turn, due_some (not (not back)), due_back (not back), l.size, not_not back) (go (leb 1 vat && leb vat s.size) refl)
     where
       accepted : (b : Bool) → 1 ≤ vat → vat ≤ s.size
           → Does (cond b (narrowed_of back t s.size (vat - 1) w) (refused (refusal.Ends 0)))

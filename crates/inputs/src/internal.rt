@@ -10,7 +10,7 @@ use interval::Interval;
 use interval::internal::is_acceptable;
 use outcome::Refusal;
 
-// The interval at position p.
+// The interval at position p. C lends intervals as numbers, lower then upper, so they are read by place.
 pub fn read(s: &[i64], p: usize) -> Interval
     requires { 2 * p + 1 < length s.now }
     ensures { result ≡ at s.now p }
@@ -93,7 +93,7 @@ pub fn sizes(n: usize, matrix: &[i64], right: &[i64], bounds: usize) -> Result<(
     ])
 }
 
-// Tests 1, 2 and 3 of a matrix, a right side and a box of which only the length counts.
+// Tests 1, 2 and 3 of a matrix, a right side and a box of which only the length counts. They come one by one, as C lends them; a struct holds them where the tests have passed.
 pub fn tested(n: usize, matrix: &[i64], right: &[i64], bounds: usize) -> Result<(), Refusal>
     ensures { result ≡ tests (system n matrix.now right.now) bounds }
 {

@@ -20,7 +20,8 @@ use Rattle.sweep.proofs.Tests.{ready}
 use Rattle.sweep.proofs.Kept.{refused_not_empty}
 use Rattle.accuracy.specs.Claim.{Narrowed}
 use Rattle.inside_former.specs.Sweeps.{box_of, box_in, Inside}
-use Rattle.inside_former.proofs.Inner.{Inner, narrowed_refl, OnPasses, or_false}
+use Rattle.interval.proofs.Range.{or_neither}
+use Rattle.inside_former.proofs.Inner.{Inner, narrowed_refl, OnPasses}
 use Rattle.inside_former.proofs.Pass.{singly_once, sweep_inner, symmetric_inner}
 use Rattle.inside_former.proofs.After.{sweeps_inner}
 
@@ -86,16 +87,16 @@ module _ (s : System) where
   unfolding any_empty_by returned_by
   list_not_empty [] X Y h e = refl
   list_not_empty (c ∷ cs) X Y h e =
-      let a = or_false (eqb (call_by once s c Y).number 7) _ e in
+      let a = or_neither (eqb (call_by once s c Y).number 7) _ e in
       let r = list_call c X Y h a.0 in
       rw r.not_empty (list_not_empty cs _ _ r.left a.1)
 
   list_boxes : (cs : List Call) (X Y : List ℤ) → Carried s.size X Y → any_empty_by (run_by once s) cs Y ≡ false → (i j : ℕ) → Narrowed s.size (box_in singly s cs i j X) (box_in once s cs i j Y)
   unfolding any_empty_by returned_by box_in
   list_boxes [] X Y h e i j = narrowed h
-  list_boxes (c ∷ cs) X Y h e zero j = (list_call c X Y h (or_false _ (any_empty_by (run_by once s) cs _) e).0).boxes j
+  list_boxes (c ∷ cs) X Y h e zero j = (list_call c X Y h (or_neither _ (any_empty_by (run_by once s) cs _) e).0).boxes j
   list_boxes (c ∷ cs) X Y h e (suc i) j =
-      let a = or_false (eqb (call_by once s c Y).number 7) _ e in
+      let a = or_neither (eqb (call_by once s c Y).number 7) _ e in
       list_boxes cs _ _ (list_call c X Y h a.0).left a.1 i j
 
   pub inside : (X Y : List ℤ) → Carried s.size X Y → Inside s X Y

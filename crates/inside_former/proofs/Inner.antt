@@ -11,7 +11,7 @@ use lib.ListN.{length}
 use lib.Signed.{lt_z}
 use Rattle.integer.proofs.Order.{antisym, left}
 use Rattle.interval.specs.declared.Interval.{Interval}
-use Rattle.interval.proofs.Range.{is_sound, same_ends}
+use Rattle.interval.proofs.Range.{is_sound, same_ends, or_neither}
 use Rattle.inputs.specs.Place.{at}
 use Rattle.inputs.specs.Code.{Sound}
 use Rattle.inputs.proofs.Place.{numbers_is}
@@ -44,25 +44,21 @@ OnPasses n (refused o) (done Y) = ⊥
 OnPasses n (done X) (done Y) = Inner n X Y
 
 -- ---- a box that does not differ from another as long is the same
-pub or_false : (a b : Bool) → (a || b) ≡ false → (a ≡ false) × (b ≡ false)
-or_false true b e = absurd (subst (λ (t : Bool). T t) e tt)
-or_false false b e = (refl, e)
-
 same_interval : (v w : Interval) → differs v w ≡ false → v ≡ w
 unfolding differs
 same_interval v w e =
-    let a = or_false _ _ e in
-    let l = or_false (lt_z v.lo w.lo) _ a.0 in
-    let u = or_false (lt_z v.hi w.hi) _ a.1 in
+    let a = or_neither _ _ e in
+    let l = or_neither (lt_z v.lo w.lo) _ a.0 in
+    let u = or_neither (lt_z v.hi w.hi) _ a.1 in
     same_ends v w (antisym _ _ (left _ _ l.1) (left _ _ l.0)) (antisym _ _ (left _ _ u.1) (left _ _ u.0))
 
 same_each : (X Y : List ℤ) (d j : ℕ) → differ X Y d j ≡ false → (i : ℕ) → i < d → at X (j + i) ≡ at Y (j + i)
 unfolding differ
 same_each X Y zero j e i h = absurd (omega arith)
-same_each X Y (suc d) j e zero h = let z : j + 0 ≡ j = omega arith in rw z (same_interval _ _ (or_false _ (differ X Y d (j + 1)) e).0)
+same_each X Y (suc d) j e zero h = let z : j + 0 ≡ j = omega arith in rw z (same_interval _ _ (or_neither _ (differ X Y d (j + 1)) e).0)
 same_each X Y (suc d) j e (suc i) h =
     let z : j + suc i ≡ j + 1 + i = omega arith in
-    rw z (same_each X Y d (j + 1) (or_false (differs (at X j) (at Y j)) _ e).1 i (omega arith))
+    rw z (same_each X Y d (j + 1) (or_neither (differs (at X j) (at Y j)) _ e).1 i (omega arith))
 
 pub same_box : (n : ℕ) {X Y : List ℤ} → length X ≡ 2 * n → length Y ≡ 2 * n → differ X Y n 0 ≡ false → X ≡ Y
 same_box n {X} {Y} l m e =

@@ -10,7 +10,7 @@ pub fn floor_div(a: i64, d: i64) -> i64
     a.div_euclid(d)
 }
 
-// a / d rounded up
+// a / d rounded up; the library has no div_ceil for i64
 #[tactic(auto, using(crate::proofs::Divided::ceil_more, crate::proofs::Divided::ceil_whole))]
 pub fn ceil_div(a: i64, d: i64) -> i64
     requires { pos 0 <ℤ d }

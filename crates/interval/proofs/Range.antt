@@ -1,6 +1,6 @@
 -- What the tests on an interval say of its ends, and that the machine holds the sums and products of acceptable intervals.
 use mathlib.Core.Path.{◌≡◌, refl, sym, subst, ◌∙◌}
-use mathlib.Core.Bool.{Bool, true, false, ◌&&◌}
+use mathlib.Core.Bool.{Bool, true, false, ◌&&◌, ◌||◌}
 use mathlib.Core.Logic.{◌⊎◌, inl, inr, ⊎_elim}
 use native.Mathlib.Omega.{arith}
 use lib.Dec.{T}
@@ -20,6 +20,10 @@ use Rattle.interval.specs.Code.{Representable, GreatestWith, negated}
 pub and_both : (a b : Bool) → (a && b) ≡ true → (a ≡ true) × (b ≡ true)
 and_both true b e = (refl, e)
 and_both false b e = absurd (subst T (sym e) tt)
+
+pub or_neither : (a b : Bool) → (a || b) ≡ false → (a ≡ false) × (b ≡ false)
+or_neither true b e = absurd (subst T e tt)
+or_neither false b e = (refl, e)
 
 -- a number in the range
 pub record Within (z : ℤ) : Type 0 where

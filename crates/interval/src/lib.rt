@@ -43,6 +43,9 @@ impl Interval {
     // the units in one whole
     pub const SCALE: i64 = 1_000_000;
 
+    // the same for unsigned numbers
+    pub const SCALE_UNSIGNED: u64 = Interval::SCALE as u64;
+
     pub const ZERO: Interval = Interval { lo: 0, hi: 0 };
 
     pub const ONE: Interval = Interval {

@@ -1,3 +1,3 @@
 #![tactic(auto)]
-// Sums beyond 64 bits, kept in a list of numbers.
+// Sums beyond 64 bits, four numbers each, in the state that C lends as numbers.
 pub mod internal;

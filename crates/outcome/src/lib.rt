@@ -15,7 +15,7 @@ pub enum Ending {
     Spent,
 }
 
-// Why a call is refused, with the place that its row of the table names.
+// Why a call is refused, with the place that its row of the table names: a number, as document 01 counts it, and 0 where a call has no such place.
 #[derive(Clone, Copy, Debug, PartialEq, Eq)]
 pub enum Refusal {
     // n is 0 or above 32
@@ -69,7 +69,7 @@ pub fn number(outcome: Outcome) -> u64
     }
 }
 
-// The place returned with it.
+// The place returned with it: a table of its own, so that either reads as document 01's column.
 pub fn place(outcome: Outcome) -> usize
     ensures { result ≡ (number_and_place outcome).place }
 {

@@ -52,7 +52,7 @@ digits_more (b ∷ s) d v w h e = go (is_digit b) refl (digits_more s d (v * 10 
     go : (t : Bool) → is_digit b ≡ t → (digits s (v * 10 + (b - 48)) ≡ Some w → digits (s ++ (digit d ∷ [])) (v * 10 + (b - 48)) ≡ Some (w * 10 + d))
         → digits (b ∷ (s ++ (digit d ∷ []))) v ≡ Some (w * 10 + d)
     go true f r = let q = r (rw f at e) in rw (f, q)
-    go false f r = let o : None ≡ Some w = rw f at e in let z : ◌≡◌ {A = ℕ} 0 1 = cc o in absurd (omega arith)
+    go false f r = let o : None ≡ Some w = rw f at e in cc o
 
 digits_back : (d n : ℕ) → n < 10 ^ d → digits (digits_within d n) 0 ≡ Some n
 unfolding digits digits_within

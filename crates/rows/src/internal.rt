@@ -29,6 +29,7 @@ impl Products<'_> {
         ensures { Summed acc self.entry.m.now self.entry.p self.entry.x.now self.entry.q self.entry.d result }
     {
         let mut sum = acc;
+        // The pairs by hand: the edit last_of_an_odd_row_lost is of the test after them.
         let k = self.d / 2;
         for j in 0..k {
             sum = self.next_two(sum, 2 * j);

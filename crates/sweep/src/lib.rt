@@ -11,7 +11,7 @@ use crate::internal::calls::swept;
 use crate::internal::pass::Way;
 use outcome::Outcome;
 
-// What a sweep call of either kind returns: its outcome and the number of whole sweeps done.
+// What a sweep call of either kind returns: its outcome and the number of whole sweeps done. A 7 has a count too, so this is no Result with the count inside.
 #[derive(Clone, Copy, Debug, PartialEq, Eq)]
 pub struct Swept {
     pub outcome: Outcome,
@@ -28,7 +28,7 @@ pub fn sweep(n: usize, b_matrix: &[i64], b: &[i64], bounds: &mut [i64], allowed:
 }
 
 #[tactic(auto, using(crate::proofs::Log::symmetric_called))]
-// Tightens the lent box by at most so many passes there and back, each counted as one sweep.
+// Tightens the lent box by at most so many passes there and back, each counted as one sweep. Two names for two ways, since callers and C know the two calls by name.
 pub fn symmetric_sweep(
     n: usize,
     b_matrix: &[i64],

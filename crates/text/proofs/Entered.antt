@@ -15,9 +15,10 @@ use Rattle.search.specs.Word.{packed}
 use Rattle.text.specs.Parts.{fields}
 use Rattle.text.specs.Names.{is_name, among, each_name, are_names}
 use Rattle.text.specs.Code.{is_new, names_of}
-use Rattle.text.proofs.Names.{and_no, name_bytes, each_new, each_old}
+use Rattle.text.proofs.Names.{name_bytes, each_new, each_old}
 use Rattle.text.proofs.Packed.{entered_among}
 use Rattle.text.proofs.Parts.{parts_some}
+use Rattle.std.proofs.Math.Bool.{and-false}
 
 -- ---- one name, after those that are the numbers cs
 module _ (cs p : List ℕ) where
@@ -76,7 +77,7 @@ module _ {line : List ℕ} {at n : ℕ} {cs : List ℕ} (r : Entered line at n c
   -- the part that comes next is no new name
   pub refused : {p : List ℕ} {ps : List (List ℕ)} → fields (drop at line) ≡ p ∷ ps → is_new cs p ≡ false → names_of line ≡ None
   unfolding names_of are_names
-  refused {p} {ps} e h = rw (r.parts, e, each_old p r.before ps (sym (new_is p) ∙ h), and_no)
+  refused {p} {ps} e h = rw (r.parts, e, each_old p r.before ps (sym (new_is p) ∙ h), and-false)
 
   -- it is one
   module _ (p : List ℕ) (h : is_new cs p ≡ true) where

@@ -20,16 +20,13 @@ use Rattle.text.specs.Names.{are_names}
 use Rattle.text.specs.Text.{faulty, Head, first_line, head, rows_from, Cellar, after_head, reading}
 use Rattle.search.specs.First.{first_from}
 use Rattle.text.specs.Code.{names_of, Few, Heads, Headed, reading_is}
+use Rattle.std.proofs.lemmas.Option.{cond_some}
 use Rattle.text.proofs.Parts.{parts_at, parts_none, parts_some}
 use Rattle.text.proofs.Lines.{row_after}
 
 -- ---- a line of names, from the answer of its reader
-count_is : {n : ℕ} (b : Bool) (m : ℕ) → cond b (Some m) None ≡ Some n → (b ≡ true) × (n ≡ m)
-count_is true m e = (refl, sym (cc e))
-count_is false m e = let z : ◌≡◌ {A = ℕ} 0 1 = cc in absurd (omega arith)
-
 count_not : (b : Bool) (m : ℕ) → cond b (Some m) None ≡ None → b ≡ false
-count_not true m e = let z : ◌≡◌ {A = ℕ} 0 1 = cc in absurd (omega arith)
+count_not true m e = cc
 count_not false m e = refl
 
 -- ---- where something is missing, `?` hands on the refusal that stands for it
@@ -66,10 +63,10 @@ module _ (s : List ℕ) where
       pub head_named : {n : ℕ} → names_of (take e s) ≡ Some n → Few (take e s) (Some n) → e < length s → Headed s (record { count = n; stop = e })
       unfolding names_of
       head_named {n} q w k =
-          let b = count_is (are_names (fields (take e s))) (length (fields (take e s))) q in
+          let b = cond_some (are_names (fields (take e s))) (length (fields (take e s))) n q in
           record {
             is = head_by ∙ rw b.0;
-            counted = b.1;
+            counted = sym b.1;
             some = w.0;
             few = w.1;
             short = omega (arith, w.2, length-take-le e s (omega arith));

@@ -21,7 +21,7 @@ abbrev line_then : (k : ℕ) → Option (List ℤ) → Run (List ℤ) → Run (L
 line_then k v R = and_then (on_line k v) (λ xs. before xs R)
 
 never : {A : Type 0} {xs : List ℤ} → None ≡ Some xs → A
-never e = let z : ◌≡◌ {A = ℕ} 0 1 = cc in absurd (omega arith)
+never e = cc
 
 before_assoc : (a zs : List ℤ) (R : Run (List ℤ)) → before a (before zs R) ≡ before (a ++ zs) R
 unfolding before and_then

@@ -10,12 +10,13 @@ use lib.ListN.{length}
 use Rattle.std.specs.Char.{is_ascii_alphanumeric}
 use Rattle.std.specs.Int.{is_in_range}
 use Rattle.std.specs.List.{list_all}
-use Rattle.interval.proofs.Range.{and_both}
+use Rattle.std.proofs.Math.Bool.{or_assoc, or-true, and-false}
+use Rattle.interval.proofs.Range.{and_both, or_neither}
 use Rattle.text.specs.Number.{is_digit}
 use Rattle.text.specs.Names.{name_byte, all_bytes, is_name, same, among, each_name}
 
 pub false_not : {A : Type 0} → false ≡ true → A
-false_not e = let z : ◌≡◌ {A = ℕ} 0 1 = cc in absurd (omega arith)
+false_not e = cc
 
 -- ---- the bytes of a name
 outside : (lo hi b : ℕ) → (lo ≤ b → hi < b) → (leb lo b && leb b hi) ≡ false
@@ -105,22 +106,6 @@ same_is false s t h = go (same s t) refl
 pub same_flip : (s t : List ℕ) → same s t ≡ same t s
 same_flip s t = same_is (same s t) t s (λ e. sym (same_equal s t e), λ e. rw e (same_self s))
 
-or_assoc : (t u v : Bool) → ((t || u) || v) ≡ (t || (u || v))
-or_assoc true u v = refl
-or_assoc false u v = refl
-
-or_yes : (t : Bool) → (t || true) ≡ true
-or_yes true = refl
-or_yes false = refl
-
-or_both : (t u : Bool) → (t || u) ≡ false → (t ≡ false) × (u ≡ false)
-or_both false u e = (refl, e)
-or_both true u e = false_not (sym e)
-
-pub and_no : (t : Bool) → (t && false) ≡ false
-and_no true = refl
-and_no false = refl
-
 among_append : (s : List ℕ) (ps qs : List (List ℕ)) → among s (ps ++ qs) ≡ (among s ps || among s qs)
 unfolding among
 among_append s [] qs = refl
@@ -134,7 +119,7 @@ module _ (p : List ℕ) where
   each_new (q ∷ seen) e h k =
       let f = and_both (is_name q) (not (among q seen) && each_name seen) e in
       let g = and_both (not (among q seen)) (each_name seen) f.1 in
-      let l = or_both (same q p) (among p seen) k in
+      let l = or_neither (same q p) (among p seen) k in
       rw (f.0, among_append q seen (p ∷ []), not-true (among q seen) g.0, same_flip p q, l.0, each_new seen g.1 h l.1)
 
   -- no name, or one of those before it
@@ -148,5 +133,5 @@ module _ (p : List ℕ) where
   each_old (q ∷ seen) ps k = go (same q p) refl (each_old seen ps)
     where
       go : (t : Bool) → same q p ≡ t → ((is_name p && not (among p seen)) ≡ false → each_name (seen ++ p ∷ ps) ≡ false) → each_name (q ∷ (seen ++ p ∷ ps)) ≡ false
-      go true e r = rw (among_append q seen (p ∷ ps), same_flip p q, e, or_yes, and_no)
-      go false e r = let f = r (rw e at k) in rw (f, and_no, and_no)
+      go true e r = rw (among_append q seen (p ∷ ps), same_flip p q, e, or-true, and-false)
+      go false e r = let f = r (rw e at k) in rw (f, and-false, and-false)

@@ -1,5 +1,5 @@
 -- What a search finds says of the parts between the bytes sought.
-use mathlib.Core.Path.{◌≡◌, refl, sym, ◌∙◌}
+use mathlib.Core.Path.{◌≡◌, refl, ◌∙◌}
 use mathlib.Core.Bool.{Bool, true, false}
 use mathlib.Core.List.{List, [], ◌∷◌}
 use Prim.Native.Nat.{ℕ, suc, ◌+◌, ◌-◌, ◌≤◌}
@@ -9,7 +9,6 @@ use lib.ListN.{length, take, drop, length-drop}
 use lib.Seq.{drop-drop, take_all}
 use Rattle.std.specs.Prelude.{Some, None}
 use Rattle.search.specs.First.{first_in, first_from}
-use Rattle.search.proofs.Answer.{found_not}
 use Rattle.text.specs.Parts.{longer, parts}
 
 -- the parts of a list, by where the first b stands in it
@@ -19,7 +18,7 @@ parts_none_in [] b i e = refl
 parts_none_in (x ∷ xs) b i e = go (eqb x b) refl (parts_none_in xs b (i + 1))
   where
     go : (t : Bool) → eqb x b ≡ t → (first_in xs b (i + 1) ≡ None → parts b xs ≡ xs ∷ []) → parts b (x ∷ xs) ≡ (x ∷ xs) ∷ []
-    go true f r = found_not (rw f at e)
+    go true f r = let z = rw f at e in cc z
     go false f r = let q : parts b xs ≡ xs ∷ [] = r (rw f at e) in rw (f, q)
 
 pub record Cut (xs : List ℕ) (b i e : ℕ) : Type 0 where
@@ -28,7 +27,7 @@ pub record Cut (xs : List ℕ) (b i e : ℕ) : Type 0 where
 
 parts_at_in : (xs : List ℕ) (b i e : ℕ) → first_in xs b i ≡ Some e → Cut xs b i e
 unfolding first_in parts longer
-parts_at_in [] b i e h = found_not (sym h)
+parts_at_in [] b i e h = cc h
 parts_at_in (x ∷ xs) b i e h = go (eqb x b) refl (parts_at_in xs b (i + 1) e)
   where
     go : (t : Bool) → eqb x b ≡ t → (first_in xs b (i + 1) ≡ Some e → Cut xs b (i + 1) e) → Cut (x ∷ xs) b i e

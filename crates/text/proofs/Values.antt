@@ -33,7 +33,7 @@ and_then_none (Some x) = refl
 
 digits_colon : (s : List ℕ) (v i k : ℕ) → first_in s 58 i ≡ Some k → digits s v ≡ None
 unfolding digits first_in is_digit
-digits_colon [] v i k e = let z : ◌≡◌ {A = ℕ} 0 1 = cc e in absurd (omega arith)
+digits_colon [] v i k e = cc e
 digits_colon (b ∷ s) v i k e = go (eqb b 58) refl (digits_colon s (v * 10 + (b - 48)) (i + 1) k)
   where
     go : (t : Bool) → eqb b 58 ≡ t → (first_in s 58 (i + 1) ≡ Some k → digits s (v * 10 + (b - 48)) ≡ None) → digits (b ∷ s) v ≡ None

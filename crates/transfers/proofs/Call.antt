@@ -28,9 +28,9 @@ use Rattle.sweep.specs.declared.internal.pass.Way.TheVariants.{There, ThereAndBa
 use Rattle.transfers.specs.Listing.{Listing, sizes, entries, shares, intervals, filled, square, squared}
 use Rattle.transfers.specs.Call.{tests, sweep_tests, run_list, over_list, allowed_of, sweep_list, call_list}
 use Rattle.transfers.specs.Code.{judgement, Entered, of_way}
+use Rattle.transfers.specs.declared.internal.found.Ends.{Ends}
 use Rattle.transfers.specs.Rows.{Tested}
 use Rattle.outcome.proofs.Run.{carried}
-use Rattle.interval.specs.declared.Interval.{Interval}
 use Rattle.transfers.proofs.Judged.{passed}
 use Rattle.transfers.proofs.Sizes.{Fitting, fitting}
 use Rattle.transfers.proofs.Square.{length_square, square_before, square_tests, square_sweep_tests}
@@ -148,8 +148,8 @@ module _ (s : Listing) (k : ℕ) (X : List ℤ) where
         unfolding all_proper
         sweep_box r = sym after_four ∙ right_goes s box j r ∙ sym (both_last _)
 
-  pub sweep_stops : (ends : List ℕ) (r : Result Interval Refusal) {o : Refusal} → IsErrAnd r (λ p. p ≡ o) → sweep_tests s k X ≡ Err o → Tested s k X ends r
-  sweep_stops ends r {o} h e = rw (carried r o h) e
+  pub sweep_stops : (r : Result Ends Refusal) {o : Refusal} → IsErrAnd r (λ p. p ≡ o) → sweep_tests s k X ≡ Err o → Tested s k X r
+  sweep_stops r {o} h e = rw (carried r o h) e
 
   -- what they say when they pass
   pub record SweepReady : Type 0 where

@@ -6,7 +6,7 @@ use native.Mathlib.Omega.{arith}
 use native.Mathlib.Numerals.{add-one}
 use lib.IntN.{ℤ, pos}
 use lib.ListN.{length, get_or, set, take, drop}
-use lib.Seq.{take-suc, drop-cons, append_snoc, set_at, length-take-le, take_at, take_all}
+use lib.Seq.{take-suc, drop-cons, append_snoc, set_at, length-take-le, take_at}
 use Rattle.transfers.specs.declared.Transfer.{Transfer}
 use Rattle.transfers.specs.Listing.{nth, transfer_of, transfers_of}
 use Rattle.transfers.specs.Code.{numbers_of, records_of}
@@ -47,7 +47,6 @@ transfers_records [] = refl
 transfers_records (t ∷ ts) = ap (λ l. t ∷ l) (transfers_records ts)
 
 -- the numbers of a list, at the beginning of others
-pub list_again : (ts : List Transfer) (rest values : List (List ℤ)) → values ≡ records_of (take (length ts) ts) ++ rest → transfers_of (take (length ts) values) ≡ ts
+pub list_again : (ts : List Transfer) (rest values : List (List ℤ)) → values ≡ records_of ts ++ rest → transfers_of (take (length ts) values) ≡ ts
 list_again ts rest values e =
-    let f : values ≡ records_of ts ++ rest = e ∙ ap (λ l. records_of l ++ rest) (take_all (length ts) ts (omega arith)) in
-    ap (λ l. transfers_of (take (length ts) l)) f ∙ ap transfers_of (take_at (records_of ts) rest (length ts) (length_records ts)) ∙ transfers_records ts
+    ap (λ l. transfers_of (take (length ts) l)) e ∙ ap transfers_of (take_at (records_of ts) rest (length ts) (length_records ts)) ∙ transfers_records ts

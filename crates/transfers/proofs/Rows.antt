@@ -43,15 +43,21 @@ module _ (ts : List Transfer) (x : List ℤ) (e k : ℕ) (acc : Interval) where
   unfolding summed
   summed_go h = let f : e - k ≡ suc (e - (k + 1)) = omega arith in rw f
 
+-- two records more, whose products are added first
+pub summed_two : (ts : List Transfer) (x : List ℤ) (e k : ℕ) (acc : Interval) {j : ℕ} {v : Interval} → v ≡ exact_sum acc (two_terms ts x j) → j ≡ k → k + 1 + 1 ≤ e
+    → summed ts x (e - k) k acc ≡ summed ts x (e - (k + 2)) (k + 2) v
+unfolding two_terms
+summed_two ts x e k acc f g h =
+    let z : k + 1 + 1 ≡ k + 2 = omega arith in
+    summed_go ts x e k acc (omega arith) ∙ summed_go ts x e (k + 1) _ (omega arith) ∙ rw (z, f, g) (ap (summed ts x (e - (k + 2)) (k + 2)) (sum_assoc _ _ _))
+
 -- ---- a row's sum, r, of which j pairs are added
 module _ (ts : List Transfer) (x : List ℤ) (from past j : ℕ) {r : Interval} (acc : Interval) (e : r ≡ summed ts x (past - (from + 2 * j)) (from + 2 * j) acc) where
   -- a pair more, whose products are added first
   pub summed_pair : {v : Interval} → v ≡ exact_sum acc (two_terms ts x (from + 2 * j)) → from + 2 * j + 1 + 1 ≤ past → r ≡ summed ts x (past - (from + 2 * (j + 1))) (from + 2 * (j + 1)) v
-  unfolding two_terms
   summed_pair f h =
-      let k = from + 2 * j in
-      let z : from + 2 * (j + 1) ≡ k + 1 + 1 = omega arith in
-      e ∙ summed_go ts x past k acc (omega arith) ∙ summed_go ts x past (k + 1) _ (omega arith) ∙ rw (z, f) (ap (summed ts x (past - (k + 1 + 1)) (k + 1 + 1)) (sum_assoc _ _ _))
+      let z : from + 2 * (j + 1) ≡ from + 2 * j + 2 = omega arith in
+      e ∙ rw z (summed_two ts x past (from + 2 * j) acc f (λ i. from + 2 * j) h)
 
   -- the last record
   pub summed_last : {v : Interval} (k : ℕ) → v ≡ exact_sum acc (term ts x k) → k ≡ from + 2 * j → k + 1 ≡ past → v ≡ r

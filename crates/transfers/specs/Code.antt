@@ -1,5 +1,5 @@
 -- What the functions beneath the calls promise each other.
-use Rattle.std.specs.Prelude.{◌≡◌, Bool, true, ◌&&◌, List, [], ◌∷◌, ℕ, zero, suc, ◌+◌, leb, ℤ, length, Ok}
+use Rattle.std.specs.Prelude.{◌≡◌, Option, Some, None, Bool, true, false, ◌&&◌, List, [], ◌∷◌, ℕ, zero, suc, ◌+◌, leb, ℤ, length, Ok}
 use Rattle.interval.specs.Interval.{acceptable}
 use Rattle.inputs.specs.Tests.{Test, both}
 use Rattle.sweep.specs.declared.internal.pass.Way.{Way}
@@ -22,10 +22,10 @@ all_good n ts zero k next = true
 all_good n ts (suc d) k next =
     both_components n (nth ts k) && (leb next (place_of n (nth ts k)) && (acceptable (share (nth ts k)) && all_good n ts d (k + 1) (place_of n (nth ts k) + 1)))
 
--- the records in the matrix, if all are good
-pub record Filled (n : ℕ) (ts : List Transfer) (before : List ℤ) (r : Bool) (after : List ℤ) : Type 0 where
-  pub good : r ≡ all_good n ts (length ts) 0 0
-  pub matrix : r ≡ true → after ≡ filled n ts (length ts) 0 before
+-- the records in the matrix; or none, as one of them is not good
+abbrev pub Filled : (n : ℕ) (ts : List Transfer) (before : List ℤ) → Option (Unit {0}) → (after : List ℤ) → Type 0
+Filled n ts before (Some _) after = (all_good n ts (length ts) 0 0 ≡ true) × (after ≡ filled n ts (length ts) 0 before)
+Filled n ts before None after = all_good n ts (length ts) 0 0 ≡ false
 
 -- all tests of the records
 unfoldable pub judgement : (n : ℕ) → List Transfer → Test

@@ -9,6 +9,7 @@ use Rattle.rows.specs.Word.{NoneBelow}
 use Rattle.sweep.specs.Code.{Ready}
 use Rattle.transfers.specs.declared.Transfer.{Transfer}
 use Rattle.transfers.specs.declared.internal.found.Row.{Row}
+use Rattle.transfers.specs.declared.internal.found.Ends.{Ends}
 use Rattle.transfers.specs.Listing.{Listing, nth, share, both_components, square}
 use Rattle.transfers.specs.Call.{sweep_tests}
 use Rattle.transfers.specs.Code.{all_good, judgement}
@@ -73,19 +74,19 @@ pub record Rows (n : ℕ) (ts : List Transfer) (ends : List ℕ) (h : Interval) 
   pub row : (i : ℕ) → i < n → RowOf n ts i h (end ends i) (end ends (i + 1))
 
 -- found exactly if all records are good
-abbrev pub AllRows : (n : ℕ) (ts : List Transfer) (ends : List ℕ) → Option Interval → Type 0
-AllRows n ts ends (Some h) = Rows n ts ends h × InRange h
-AllRows n ts ends None = all_good n ts (length ts) 0 0 ≢ true
+abbrev pub AllRows : (n : ℕ) (ts : List Transfer) → Option Ends → Type 0
+AllRows n ts (Some e) = Rows n ts e.at e.hull × InRange e.hull
+AllRows n ts None = all_good n ts (length ts) 0 0 ≢ true
 
 -- what the tests of the records said
-abbrev pub Told : (n : ℕ) (ts : List Transfer) (ends : List ℕ) → Result Interval Refusal → Type 0
-Told n ts ends (Ok h) = Rows n ts ends h × InRange h
-Told n ts ends (Err o) = judgement n ts ≡ Err o
+abbrev pub Told : (n : ℕ) (ts : List Transfer) → Result Ends Refusal → Type 0
+Told n ts (Ok e) = Rows n ts e.at e.hull × InRange e.hull
+Told n ts (Err o) = judgement n ts ≡ Err o
 
 -- what the tests of a sweep call said
-abbrev pub Tested : (s : Listing) (allowed : ℕ) (X : List ℤ) (ends : List ℕ) → Result Interval Refusal → Type 0
-Tested s k X ends (Ok h) = (sweep_tests s k X ≡ Ok tt) × Rows s.size s.transfers ends h × InRange h
-Tested s k X ends (Err o) = sweep_tests s k X ≡ Err o
+abbrev pub Tested : (s : Listing) (allowed : ℕ) (X : List ℤ) → Result Ends Refusal → Type 0
+Tested s k X (Ok e) = (sweep_tests s k X ≡ Ok tt) × Rows s.size s.transfers e.at e.hull × InRange e.hull
+Tested s k X (Err o) = sweep_tests s k X ≡ Err o
 
 -- the rows with a right side and a box, as the passes ask for them; if above is true, no share and no component is below 0
 pub record Passable (n : ℕ) (ts : List Transfer) (h : Interval) (above : Bool) (r x : List ℤ) : Type 0 where

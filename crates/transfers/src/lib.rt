@@ -59,8 +59,9 @@ pub fn eliminate_transfers(
     ensures { answered result bounds.new ≡ over_list (listing n ts.now b.now) bounds.old }
 {
     few_enough(n, ts.len())?;
+    // An array of fixed size, since there is no heap.
     let mut values = [[0i64; 4]; 1024];
-    gather(ts, ts.len(), &mut values);
+    gather(ts, &mut values);
     eliminate_records(n, &values[..ts.len()], b, bounds)
 }
 
@@ -78,7 +79,7 @@ pub fn sweep_transfers(
     swept(n, Way::There, ts, b, bounds, allowed)
 }
 
-// Tightens the lent box by at most so many passes there and back, each counted as one sweep, from a list of transfers and b.
+// Tightens the lent box by at most so many passes there and back, each counted as one sweep, from a list of transfers and b. Two names for two ways, as for the square.
 pub fn symmetric_sweep_transfers(
     n: usize,
     ts: &[Transfer],

@@ -1,4 +1,4 @@
-// The calls on a system, a list or a text, which follow it.
+// The calls on a system, a list or a text, which follow it. The handle stays a parameter of its own beside the reader, as everywhere in the language.
 ghost use Rattle.std.specs.Prelude.{IfSome};
 ghost use Rattle.vectors.specs.Reader.{Passed, PassedSome};
 

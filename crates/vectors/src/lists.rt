@@ -22,21 +22,11 @@ struct List<'a, 'b> {
     transfers: &'a [Transfer],
 }
 
-// A transfer from its four numbers. No From: neither type is of this crate.
-fn transfer([receiver, giver, lo, hi]: [i64; 4]) -> Transfer {
-    Transfer {
-        receiver,
-        giver,
-        lo,
-        hi,
-    }
-}
-
 // The numbers as transfers, as far as there is room.
 fn listed<'a>(numbers: &[i64], room: &'a mut [Transfer]) -> &'a [Transfer] {
     let (records, _) = numbers.as_chunks::<4>();
     for (t, record) in room.iter_mut().zip(records) {
-        *t = transfer(*record);
+        *t = Transfer::from(*record);
     }
     first(room, records.len())
 }
@@ -79,7 +69,7 @@ pub(crate) fn run(rt: &impl Print, reader: &mut Reader)
     ensures { Passed reader.old reader.new }
 {
     let mut room = Room::<4100>::new();
-    let mut transfers = [transfer([0; 4]); 1025];
+    let mut transfers = [Transfer::from([0; 4]); 1025];
     let equations = room.read(reader);
     let transfers = listed(equations.matrix, &mut transfers);
     let mut list = List {

@@ -120,6 +120,7 @@ fn read_cases<'a, R: Read>(file: &mut R, buf: &'a mut [u8]) -> &'a [u8] {
 fn main(rt: HostRuntime) {
     match File::open(&rt, "cases") {
         Ok(mut file) => {
+            // An array of fixed size, since there is no heap.
             let mut cases = [0u8; 1048576];
             run_all(&rt, read_cases(&mut file, &mut cases));
         }

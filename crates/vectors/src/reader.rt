@@ -1,5 +1,5 @@
 // The file of cases: numbers parted by blanks and line ends, letters and texts. Whatever bytes it has, reading goes on.
-ghost use Rattle.std.specs.Prelude.{◌<◌, ◌≤◌, IfSome, length};
+ghost use Rattle.std.specs.Prelude.{◌<◌, IfSome};
 ghost use Rattle.vectors.specs.Reader.{Passed, PassedSome};
 
 // What is left of the file.

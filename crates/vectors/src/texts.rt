@@ -42,6 +42,7 @@ fn show_used(rt: &impl Print, t: &[i64]) {
 
 // The numbers of a text: how the call ended, n, and what the slices hold.
 fn show_numbers(rt: &impl Print, text: &[u8], matrix_size: usize, right_size: usize) {
+    // An array of fixed size, since there is no heap.
     let mut matrix = [LENT; 2304];
     let mut right = [LENT; 128];
     let matrix = first(&mut matrix, matrix_size);
@@ -71,6 +72,7 @@ fn show_place(rt: &impl Print, text: &[u8], from: usize, byte: u8) {
 fn show_sheet<F: FnOnce(&mut [u8]) -> Answer>(rt: &impl Print, size: usize, write: F)
     requires { F.IsAlwaysCallable write }
 {
+    // An array of fixed size, since there is no heap.
     let mut out = [BLANK; 4096];
     let out = first(&mut out, size);
     lines::ended(rt, write(out));

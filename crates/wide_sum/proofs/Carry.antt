@@ -21,9 +21,6 @@ one_more_fits n = (moved_fits (more _) (≤ℤ_refl _) n).0
 one_more_read : {w : Wide} → Near 1000 w → to_z w64 (of_z w64 (to_z w64 (of_z w64 w.high) +ℤ pos 1)) ≡ w.high +ℤ pos 1
 one_more_read {w} n = rw (to_z-of_z w64 w.high (high_fits n)) (to_z-of_z w64 _ (one_more_fits n))
 
-pub one_more_safe : {w : Wide} → Near 1000 w → SFits w64 (to_z w64 (of_z w64 w.high) +ℤ pos 1)
-one_more_safe {w} n = rw (to_z-of_z w64 w.high (high_fits n)) (one_more_fits n)
-
 -- ---- the low words' sum is what is left of it, and 2^64 if it carried
 held_carry : (h m a p l : ℤ) → (a +ℤ p) ≡ (m +ℤ l) → ((h +ℤ pos 1) *ℤ m +ℤ l) ≡ ((h *ℤ m +ℤ a) +ℤ p)
 held_carry = over 5 _ (λ ρ. simp (linear, ρ) (omega arith))

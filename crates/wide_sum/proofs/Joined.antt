@@ -1,7 +1,7 @@
 -- Two wide numbers added: the low words with their carry, then the high words.
 use Rattle.std.proofs.Common.{◌≡◌, ◌^◌, ℤ, pos, ◌+ℤ◌, ◌*ℤ◌, neg_ℤ, ◌≤ℤ◌, arith, w64, SFits, to_z, of_z}
 use Rattle.integer.proofs.Linear.{linear, over}
-use Rattle.integer.proofs.Machine.{op_safe, op_read}
+use Rattle.integer.proofs.Machine.{op_read}
 use Rattle.interval.specs.Interval.{exact_sum}
 use Rattle.wide_sum.specs.declared.Wide.{Wide}
 use Rattle.wide_sum.specs.declared.WideInterval.{WideInterval}
@@ -29,9 +29,6 @@ module _ {v w u : Wide} (n : Near 900 v) (m : Near 90 w) (r : Raised v w.low u) 
 
   sum_fits : SFits w64 (u.high +ℤ w.high)
   sum_fits = high_fits sum_near
-
-  pub join_safe : SFits w64 (to_z w64 (of_z w64 u.high) +ℤ to_z w64 (of_z w64 w.high))
-  join_safe = op_safe ◌+ℤ◌ u.high w.high raised_fits other_fits sum_fits
 
   pub joined_is : Joined v w (record { high = to_z w64 (of_z w64 (to_z w64 (of_z w64 u.high) +ℤ to_z w64 (of_z w64 w.high))); low = u.low })
   unfolding held

@@ -41,12 +41,6 @@ module _ {w : Wide} (n : Near 1000 w) {k m b : ℕ} (kb : k ≤ b) (mb : m ≤ b
       go : (z b : ℤ) → neg_ℤ (pos 1001 *ℤ b) ≤ℤ z → z ≤ℤ (pos 1001 *ℤ b) → b ≤ℤ pos 20000000000000 → SFits w64 z
       go = over 2 _ (λ ρ. simp (fits64, linear, ρ) (omega arith))
 
-  pub scaled_safe : SFits w64 (to_z w64 (of_z w64 w.high) *ℤ pos k)
-  scaled_safe = rw (to_z-of_z w64 w.high (high_fits n)) product_fits
-
-  pub with_rest_safe : SFits w64 (to_z w64 (of_z w64 (to_z w64 (of_z w64 w.high) *ℤ pos k)) +ℤ to_z w64 m)
-  with_rest_safe = rw (to_z-of_z w64 w.high (high_fits n), to_z-of_z w64 (w.high *ℤ pos k) product_fits, to_z_pos w64 m (omega arith)) sum_fits
-
   pub with_rest_read : to_z w64 (of_z w64 (to_z w64 (of_z w64 (to_z w64 (of_z w64 w.high) *ℤ pos k)) +ℤ to_z w64 m)) ≡ w.high *ℤ pos k +ℤ pos m
   with_rest_read =
       rw (to_z-of_z w64 w.high (high_fits n), to_z-of_z w64 (w.high *ℤ pos k) product_fits, to_z_pos w64 m (omega arith)) (to_z-of_z w64 (w.high *ℤ pos k +ℤ pos m) sum_fits)

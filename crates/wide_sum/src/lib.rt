@@ -9,7 +9,7 @@ pub struct Wide {
     pub low: u64,
 }
 
-// An interval with such ends.
+// An interval with such ends. How far they are from 0 (Near) stands in the contracts and not in the type: every sum moves it.
 #[derive(Clone, Copy, Debug, PartialEq, Eq)]
 pub struct WideInterval {
     pub lo: Wide,

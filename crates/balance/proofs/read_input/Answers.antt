@@ -1,4 +1,3 @@
-use mathlib.Core.Path.{sym}
 use borrow.Author.Rules.{rules}
 use Rattle.balance.proofs.Reading.{more_taken, more_consumed}
 use Rattle.balance.proofs.read_input.Goals as goal

@@ -19,6 +19,7 @@ fn finish(n: usize, t: &mut [i64], bounds: &mut [i64]) -> Result<(), Refusal>
     requires { Working n t.old × (length bounds.old ≡ 2 * n) }
     ensures { Ended (solved lowest_row once n t.old) result bounds.old bounds.new }
 {
+    // An array of fixed size, since there is no heap.
     let mut taken = [0i64; 32];
     forward(n, t, &mut taken)?;
     back(n, t)?;
@@ -31,6 +32,7 @@ pub fn solve(n: usize, a: &[i64], f: &[i64], bounds: &mut [i64]) -> Result<(), R
     requires { tests (system n a.now f.now) (length bounds.old) ≡ Ok tt }
     ensures { Ended (solved lowest_row once n (copied (system n a.now f.now))) result bounds.old bounds.new }
 {
+    // An array of fixed size, since there is no heap.
     let mut t = [0i64; 2112];
     copy_in(&mut t, a, f);
     finish(n, &mut t, bounds)
@@ -56,6 +58,7 @@ pub fn solve_balance(
     ensures { Ended (and_then (formed_rows n n 0 (copied (system n b_matrix.now b.now))) (λ t. solved lowest_row once n t))
         result bounds.old bounds.new }
 {
+    // An array of fixed size, since there is no heap.
     let mut t = [0i64; 2112];
     copy_in(&mut t, b_matrix, b);
     solve_formed(n, &mut t, bounds)

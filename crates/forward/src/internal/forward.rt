@@ -52,7 +52,7 @@ pub fn forward(n: usize, t: &mut [i64], taken: &mut [i64]) -> Result<(), Refusal
     ensures { Reached (forward lowest_row n (table t.old taken.old)) result (table t.new taken.new) }
 {
     let mut ending = Ok(());
-    // document 01 asks for the label
+    // document 01, Which form to use where: left by a label
     'pivots: for k in 0..n {
         let p = match pivot(n, k, t, taken) {
             Ok(p) => p,

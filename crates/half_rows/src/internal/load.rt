@@ -2,7 +2,7 @@ ghost use Rattle.std.specs.Prelude.{◌≡◌, true, ◌*◌, ◌≤◌, length}
 ghost use Rattle.inputs.specs.System.{system};
 ghost use Rattle.sweep.specs.Code.{Ready};
 ghost use Rattle.half_rows.specs.Rows.{sides};
-ghost use Rattle.half_rows.specs.State.{state_length, with_system};
+ghost use Rattle.half_rows.specs.State.{with_system};
 ghost use Rattle.half_rows.specs.Operations.{loaded_over, loaded};
 
 use crate::internal::operations::commit;
@@ -44,8 +44,7 @@ impl Load<'_> {
     }
 
     // Size, matrix and right side.
-    fn put_system(self, t: &mut [i64])
-        requires { length t.old ≡ state_length }
+    fn put_system(self, t: &mut [i64; LENGTH])
         ensures { t.new ≡ with_system t.old (system self.entry.n self.entry.matrix.now self.entry.right.now) }
     {
         fill(t, self.matrix, MATRIX);
@@ -54,8 +53,8 @@ impl Load<'_> {
     }
 
     // The whole state, written over t; sums is lent to work in.
-    fn load_over(self, t: &mut [i64], sums: &mut [i64])
-        requires { (length t.old ≡ state_length) × (length sums.old ≡ 4 * self.n) }
+    fn load_over(self, t: &mut [i64; LENGTH], sums: &mut [i64])
+        requires { length sums.old ≡ 4 * self.n }
         ensures { t.new ≡ loaded_over t.old (system self.entry.n self.entry.matrix.now self.entry.right.now) self.entry.bounds.now }
     {
         copy_out(sums, t, Way::Down.sums_place());
@@ -65,13 +64,13 @@ impl Load<'_> {
     }
 
     // The state becomes the loaded one, whatever stood there: it is made over noughts.
-    pub fn load_into(self, state: &mut [i64])
-        requires { length state.old ≡ state_length }
+    pub fn load_into(self, state: &mut [i64; LENGTH])
         ensures { state.new ≡ loaded (system self.entry.n self.entry.matrix.now self.entry.right.now) self.entry.bounds.now }
     {
+        // An array of fixed size, since there is no heap.
         let mut t = [0i64; LENGTH];
         let mut sums = [0i64; 128];
         self.load_over(&mut t, &mut sums[..4 * self.n]);
-        copy_out(state, &t, 0);
+        *state = t;
     }
 }

@@ -4,13 +4,13 @@ ghost use Rattle.interval.specs.Interval.{acceptable};
 ghost use Rattle.inputs.specs.Place.{at};
 ghost use Rattle.inputs.specs.Code.{Ended};
 ghost use Rattle.half_rows.specs.Rows.{worked};
-ghost use Rattle.half_rows.specs.State.{state_length, box_of, with_box, with_sums, with_turn};
+ghost use Rattle.half_rows.specs.State.{box_of, with_box, with_sums, with_turn};
 ghost use Rattle.half_rows.specs.Operations.{pass_of, narrowed_to, narrowed_of};
 ghost use Rattle.half_rows.specs.Code.{is_back, pass_end};
 
 use crate::internal::narrow::Exchange;
 use crate::internal::pass::HalfPass;
-use crate::internal::state::{BOX, MATRIX, RIGHT, put_parts};
+use crate::internal::state::{BOX, LENGTH, MATRIX, RIGHT, put_parts};
 use crate::internal::way::Way;
 use inputs::internal::copy::copy_out;
 use inputs::internal::{intervals, read, write};
@@ -22,11 +22,11 @@ use outcome::Refusal;
 fn pass_on(
     n: usize,
     way: Way,
-    state: &[i64],
+    state: &[i64; LENGTH],
     x: &mut [i64],
     sums: &mut [i64],
 ) -> Result<(), Refusal>
-    requires { (n ≤ 32) × (length state.now ≡ state_length) × (length x.old ≡ 2 * n) × (length sums.old ≡ 4 * n) }
+    requires { (n ≤ 32) × (length x.old ≡ 2 * n) × (length sums.old ≡ 4 * n) }
     ensures { run_of result (worked x.new sums.new) ≡ pass_of (is_back way) state.now n }
 {
     copy_out(x, state, BOX);
@@ -47,8 +47,8 @@ fn pass_on(
 }
 
 // Box and sums become those of a whole half pass, and the other half is due.
-pub fn commit(state: &mut [i64], way: Way, x: &[i64], sums: &[i64])
-    requires { (length state.old ≡ state_length) × (length x.now ≤ 64) × (length sums.now ≤ 128) }
+pub fn commit(state: &mut [i64; LENGTH], way: Way, x: &[i64], sums: &[i64])
+    requires { (length x.now ≤ 64) × (length sums.now ≤ 128) }
     ensures { state.new ≡ with_turn (with_sums (with_box state.old x.now) (is_back way) sums.now) (not (is_back way)) }
 {
     put_parts(state, way, x, sums);
@@ -56,10 +56,11 @@ pub fn commit(state: &mut [i64], way: Way, x: &[i64], sums: &[i64])
 }
 
 // The half pass, on a state that is loaded and in turn.
-pub fn half(n: usize, way: Way, state: &mut [i64]) -> Result<(), Refusal>
-    requires { (n ≤ 32) × (length state.old ≡ state_length) }
+pub fn half(n: usize, way: Way, state: &mut [i64; LENGTH]) -> Result<(), Refusal>
+    requires { n ≤ 32 }
     ensures { Ended (pass_end (is_back way) state.old n) result state.old state.new }
 {
+    // An array of fixed size, since there is no heap.
     let mut x = [0i64; 64];
     let mut sums = [0i64; 128];
     let x = &mut x[..2 * n];
@@ -73,13 +74,13 @@ pub fn half(n: usize, way: Way, state: &mut [i64]) -> Result<(), Refusal>
 fn narrow_to(
     n: usize,
     way: Way,
-    state: &mut [i64],
+    state: &mut [i64; LENGTH],
     v: usize,
     new: Interval,
     x: &mut [i64],
     sums: &mut [i64],
 ) -> Result<(), Refusal>
-    requires n_bound { (n ≤ 32) × (v < n) × (length state.old ≡ state_length) × (x.old ≡ box_of state.old n) × (length sums.old ≡ 4 * n) }
+    requires n_bound { (n ≤ 32) × (v < n) × (x.old ≡ box_of state.old n) × (length sums.old ≡ 4 * n) }
     requires v_value { (acceptable (at x.old v) ≡ true) × (acceptable new ≡ true) }
     ensures { Ended (narrowed_to (is_back way) state.old n v new) result state.old state.new }
 {
@@ -99,10 +100,17 @@ fn narrow_to(
 }
 
 // Component v is narrowed by w.
-pub fn narrow(n: usize, way: Way, state: &mut [i64], v: usize, w: Interval) -> Result<(), Refusal>
-    requires { (n ≤ 32) × (v < n) × (length state.old ≡ state_length) }
+pub fn narrow(
+    n: usize,
+    way: Way,
+    state: &mut [i64; LENGTH],
+    v: usize,
+    w: Interval,
+) -> Result<(), Refusal>
+    requires { (n ≤ 32) × (v < n) }
     ensures { Ended (narrowed_of (is_back way) state.old n v w) result state.old state.new }
 {
+    // An array of fixed size, since there is no heap.
     let mut x = [0i64; 64];
     let mut sums = [0i64; 128];
     let x = &mut x[..2 * n];

@@ -12,7 +12,7 @@ use kept_sums::internal::write_sum;
 use outcome::Refusal;
 use rows::internal::word::all_above;
 
-// What a half pass reads: its way, the system, and the sums that are kept of the side ahead.
+// What a half pass reads: its way, the system, and the sums that are kept of the side ahead. The box and the new sums are no fields, since a pass changes them from step to step.
 #[derive(Clone, Copy)]
 pub struct HalfPass<'a> {
     pub n: usize,

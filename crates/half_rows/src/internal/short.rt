@@ -3,8 +3,8 @@ ghost use Rattle.interval.specs.Interval.{scale, rounded};
 ghost use Rattle.wide_sum.specs.Wide.{held, held_both};
 ghost use Rattle.wide_sum.specs.Code.{NearBoth, Handy};
 
-use integer::internal::{ceil_div, floor_div};
 use interval::Interval;
+use wide_sum::internal::rounding::rounded;
 use wide_sum::{Wide, WideInterval};
 
 // A number in one word if it fits, as most sums do: one division rounds it, where a wide one takes two.
@@ -22,10 +22,7 @@ pub fn rounded_any(v: WideInterval) -> Interval
     ensures { (result ≡ rounded scale (held_both v)) × Handy result.lo × Handy result.hi }
 {
     match (short(v.lo), short(v.hi)) {
-        (Some(lo), Some(hi)) => Interval {
-            lo: floor_div(lo, Interval::SCALE),
-            hi: ceil_div(hi, Interval::SCALE),
-        },
+        (Some(lo), Some(hi)) => rounded(Interval { lo, hi }),
         _ => v.rounded(),
     }
 }

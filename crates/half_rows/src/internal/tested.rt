@@ -1,4 +1,4 @@
-// The sum of products of shares that are tested on the way, since a state may hold anything: none where a share is no interval.
+// The sum of products of shares that are tested on the way, since a state may hold anything: none where a share is no interval. They are no Products before that, whose shares are all intervals.
 ghost use Rattle.std.specs.Prelude.{◌≡◌, true, ◌+◌, ◌*◌, ◌≤◌, ◌<◌, length};
 ghost use Rattle.inputs.specs.Code.{Sound};
 ghost use Rattle.wide_sum.specs.Code.{NearBoth};
@@ -12,7 +12,7 @@ use rows::internal::Products;
 use rows::internal::word::{is_modest, next_above};
 use wide_sum::WideInterval;
 
-// acc and the product of the one share of g.
+// acc and the product of the one share of g. any_sum of one share says the same, but half passes then take up to a quarter more instructions.
 pub fn next_single(acc: WideInterval, g: &[i64], x: &[i64], q: usize) -> Option<WideInterval>
     requires near_both { NearBoth 1_000 acc }
     requires g_len { (length g.now ≡ 2) × Sound x.now × (2 * (q + 1) ≤ length x.now) }

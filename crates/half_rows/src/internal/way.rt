@@ -4,11 +4,9 @@ ghost use Rattle.half_rows.specs.Rows.{first, beside, begin};
 ghost use Rattle.half_rows.specs.State.{sums_place};
 ghost use Rattle.half_rows.specs.Code.{is_back, turn};
 
-const LEFTS: usize = 130;
+use crate::internal::state::{LEFTS, RIGHTS};
 
-const RIGHTS: usize = 258;
-
-// From vat 1 to n, or from vat n to 1; a state that is due for it holds its number.
+// From vat 1 to n, and from vat n to 1. The state that C lends holds the number of the one that is due, 1 or 2; any other number is of none.
 #[derive(Clone, Copy, Debug, PartialEq, Eq)]
 pub enum Way {
     Up = 1,
@@ -16,6 +14,7 @@ pub enum Way {
 }
 
 impl Way {
+    // The way against this one.
     pub fn other(self) -> Way
         ensures { is_back result ≡ not (is_back self) }
     {

@@ -6,8 +6,6 @@ ghost use Rattle.interval.specs.Code.{Bounded, GreatestWith};
 use crate::Interval;
 
 // Rounding by the scale is one unsigned division by a constant: BIAS, a multiple of the scale, lifts every product of two ends to 0 or more.
-const SCALE: u64 = Interval::SCALE as u64;
-
 const BIAS_IN_SCALES: i64 = 4_000_000_000_000;
 
 const BIAS: i64 = BIAS_IN_SCALES * Interval::SCALE;
@@ -23,7 +21,7 @@ fn biased(p: i64, bias: i64) -> i64
     ensures { result ≡ floor_div (p +ℤ bias) scale -ℤ pos 4_000_000_000_000 }
 {
     let n = (p + bias) as u64;
-    let q = (n / SCALE) as i64;
+    let q = (n / Interval::SCALE_UNSIGNED) as i64;
     q - BIAS_IN_SCALES
 }
 

@@ -19,7 +19,7 @@ fn lower_quotient(a: i64, near: i64, far: i64) -> i64
     floor_div(a, far)
 }
 
-// The greater of b / near and b / far, rounded up.
+// The greater of b / near and b / far, rounded up: the lower one turned round, which signs turned twice would hide.
 fn upper_quotient(b: i64, near: i64, far: i64) -> i64
     requires pos_bound { pos 0 <ℤ near }
     requires near_le_far { near ≤ℤ far }

@@ -1,4 +1,5 @@
 use mathlib.Core.Path.{◌≡◌, sym, ap, ◌∙◌}
+use native.Mathlib.Omega.{arith}
 use Rattle.std.specs.Prelude.{Ok, Err}
 use Rattle.outcome.specs.Run.{counted}
 use Rattle.outcome.proofs.Run.{carried}
@@ -15,7 +16,7 @@ returns-in_err-room-clause-out_after c =
     ap (λ r. counted r c.args.out.now) (carried _ _ c.from_residual.ensures.1) ∙ print_short _ _ (sym c.room.ensures ∙ c.in_err-room.was)
 
 pub hand_out-requires : goal.hand_out-requires
-hand_out-requires c = c.report.auto.out ∙ room_long _ (roomy (goal.at.hand_out-requires c).In_ok-room)
+hand_out-requires c = omega (arith, c.report.auto.out, room_long _ (roomy (goal.at.hand_out-requires c).In_ok-room))
 
 pub returns-in-Ok : goal.returns-in-Ok
 returns-in-Ok c =

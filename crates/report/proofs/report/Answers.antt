@@ -24,7 +24,7 @@ returns-in_err-room c =
 pub put_balance-requires-clause-in_bounds : goal.put_balance-requires-clause-in_bounds
 put_balance-requires-clause-in_bounds c =
     let w = c.in_ok-h.ensures.fits in
-    (room_long _ (roomy (goal.at.put_balance-requires-clause-in_bounds c).In_ok-room), omega (arith, stops w, w.short))
+    (omega (arith, room_long _ (roomy (goal.at.put_balance-requires-clause-in_bounds c).In_ok-room)), omega (arith, stops w, w.short))
 
 pub returns : goal.returns
 returns c =

@@ -10,7 +10,7 @@ use text::internal::lines::Numbers;
 
 // The sheet of a balance of which the numbers stand at the beginning of t.
 pub fn put_balance(out: &mut [u8], names: &[u8], n: usize, t: &Numbers) -> Result<Written, Refusal>
-    requires in_bounds { (length out.old ≡ 2048) × (length names.now ≤ 543) }
+    requires in_bounds { (2048 ≤ length out.old) × (length names.now ≤ 543) }
     requires le_n { (1 ≤ n) × (n ≤ 32) }
     ensures { answer_of result out.new ≡ reported names.now n out.old (solved (system_of n t.now)) }
 {

@@ -1,5 +1,5 @@
 // What is printed, piece by piece.
-ghost use Rattle.std.specs.Prelude.{◌≡◌, [], ◌∷◌, ◌++◌, ◌+◌, ◌*◌, ◌≤◌, Err, length, drop};
+ghost use Rattle.std.specs.Prelude.{◌≡◌, ◌++◌, ◌+◌, ◌*◌, ◌≤◌, Err, length};
 ghost use Rattle.arrayvec.specs.ArrayVec.{array_vec_len};
 ghost use Rattle.outcome.specs.Table.{number_and_place};
 ghost use Rattle.text.specs.Call.{over};
@@ -98,7 +98,7 @@ pub fn refused(o: Refusal) -> Sheet
 
 // Copies a sheet to the beginning of out, and answers how many bytes it has.
 pub fn hand_out(sheet: &Sheet, out: &mut [u8]) -> usize
-    requires { length out.old ≡ 2048 }
+    requires { 2048 ≤ length out.old }
     ensures count { result ≡ length sheet.now.items }
     ensures out_after { out.new ≡ over sheet.now.items out.old }
 {

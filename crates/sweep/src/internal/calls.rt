@@ -68,6 +68,7 @@ pub fn run<B: Balance>(balance: &B, way: Way, bounds: &mut [i64], allowed: usize
     ensures { Ran (sweeps (B.system balance.now).size (pass way (B.system balance.now)) allowed bounds.old)
         bounds.old result bounds.new }
 {
+    // An array of fixed size, since there is no heap.
     let mut x = [0i64; 64];
     tighten(balance, way, &mut x[..2 * balance.size()], bounds, allowed)
 }

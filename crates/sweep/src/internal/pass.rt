@@ -17,6 +17,7 @@ pub enum Way {
 }
 
 // The new component i.
+#[inline(always)]
 fn component<B: Balance>(balance: &B, i: usize, x: &[i64]) -> Interval
     requires ready { B.is_ready balance.now x.now }
     requires in_bounds { i < (B.system balance.now).size }
@@ -30,6 +31,7 @@ fn component<B: Balance>(balance: &B, i: usize, x: &[i64]) -> Interval
 }
 
 // Narrows component i of x: whether that changed an end, or where it found nothing left.
+#[inline(always)]
 fn narrow<B: Balance>(balance: &B, i: usize, x: &mut [i64]) -> Result<bool, Refusal>
     requires ready { B.is_ready balance.now x.old }
     requires in_bounds { i < (B.system balance.now).size }

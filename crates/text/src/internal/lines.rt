@@ -12,7 +12,7 @@ use search::first;
 // the bytes of a text, at most
 const LONGEST: usize = 65_536;
 
-// Room for the numbers of 32 vats: those of B, and then those of b.
+// Room for the numbers of 32 vats, of fixed size since there is no heap: those of B, and then those of b. Written by place, as the working copy of an elimination is.
 pub type Numbers = [i64; 2112];
 
 // Line 1: how many names it has, and where its byte 10 stands.

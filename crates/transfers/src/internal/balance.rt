@@ -37,6 +37,7 @@ impl<'a> Balance for Listed<'a> {
         self.right
     }
 
+    #[inline(always)]
     fn row_sum(&self, i: usize, x: &[i64]) -> Interval {
         let sums = Sums {
             rows: self.rows,

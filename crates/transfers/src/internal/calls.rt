@@ -1,5 +1,5 @@
 // The calls over records as four numbers each.
-ghost use Rattle.std.specs.Prelude.{◌≡◌, true, ◌*◌, ◌≤◌, pos, length, get_or, ◌≤ℤ◌};
+ghost use Rattle.std.specs.Prelude.{◌≡◌, true, ◌*◌, ◌≤◌, pos, length, ◌≤ℤ◌};
 ghost use Rattle.outcome.specs.Run.{returned, answered};
 ghost use Rattle.inputs.specs.Code.{Sound};
 ghost use Rattle.rows.specs.Word.{NoneBelow};
@@ -9,7 +9,7 @@ ghost use Rattle.transfers.specs.Code.{of_way};
 ghost use Rattle.transfers.specs.Rows.{Tested};
 
 use crate::internal::balance::Listed;
-use crate::internal::found::tried_rows;
+use crate::internal::found::{Ends, tried_rows};
 use crate::internal::in_rows::Rows;
 use crate::internal::square::enter;
 use crate::internal::tests::sizes;
@@ -34,6 +34,7 @@ pub fn eliminate_records(
     ensures { answered result bounds.new ≡ over_list (listing n (transfers_of rs.now) b.now) bounds.old }
 {
     sizes(n, rs, b, bounds)?;
+    // An array of fixed size, since there is no heap.
     let mut t = [0i64; 2112];
     enter(n, rs, &mut t)?;
     intervals(b, n, rs.len())?;
@@ -45,20 +46,18 @@ pub fn eliminate_records(
 fn tested(
     n: usize,
     rs: &[[i64; 4]],
-    ends: &mut [usize],
     b: &[i64],
     bounds: &[i64],
     allowed: usize,
-) -> Result<Interval, Refusal>
-    requires { (length ends.old ≡ 33) × (get_or ends.old 0 0 ≡ 0) }
-    ensures { Tested (listing n (transfers_of rs.now) b.now) allowed bounds.now ends.new result }
+) -> Result<Ends, Refusal>
+    ensures { Tested (listing n (transfers_of rs.now) b.now) allowed bounds.now result }
 {
     sizes(n, rs, b, bounds)?;
     budget(allowed)?;
-    let hull = tried_rows(n, rs, ends)?;
+    let ends = tried_rows(n, rs)?;
     intervals(b, n, rs.len())?;
     intervals(bounds, n, rs.len() + n)?;
-    Ok(hull)
+    Ok(ends)
 }
 
 // Whether no share with this hull is below 0, and no component.
@@ -81,19 +80,18 @@ pub fn swept_records<'a>(
     ensures { returned result.outcome result.count bounds.new ≡
         call_list (listing n (transfers_of rs.now) b.now) (of_way way allowed) bounds.old }
 {
-    let mut ends = [0usize; 33];
-    match tested(n, rs, &mut ends, b, bounds, allowed) {
-        Ok(hull) => {
+    match tested(n, rs, b, bounds, allowed) {
+        Ok(ends) => {
             let rows = Rows {
                 n,
                 records: rs,
-                ends: &ends,
-                hull,
+                ends: &ends.at,
+                hull: ends.hull,
             };
             let listed = Listed {
                 rows,
                 right: b,
-                above: are_above(hull, bounds, n),
+                above: are_above(ends.hull, bounds, n),
             };
             run(&listed, way, bounds, allowed)
         }

@@ -1,10 +1,10 @@
 // Where the rows of a list end: found once, with all tests of the records.
-ghost use Rattle.std.specs.Prelude.{◌≡◌, true, ◌+◌, ◌≤◌, ◌<◌, pos, length, get_or, ◌≤ℤ◌};
+ghost use Rattle.std.specs.Prelude.{◌≡◌, true, ◌+◌, ◌≤◌, ◌<◌, pos, length, ◌≤ℤ◌};
 ghost use Rattle.transfers.specs.Listing.{transfers_of};
 ghost use Rattle.transfers.specs.Rows.{hull, Short, Later, RowFound, AllRows, Told};
 
 use crate::Transfer;
-use crate::internal::tests::{judged, record, share};
+use crate::internal::tests::{judged, share};
 use interval::Interval;
 use interval::internal::in_range;
 use outcome::Refusal;
@@ -14,6 +14,13 @@ use outcome::Refusal;
 pub struct Row {
     pub end: usize,
     pub columns: usize,
+    pub hull: Interval,
+}
+
+// Where the rows of a list end, as Rows has it, and a hull of all shares.
+#[derive(Clone, Copy, Debug, PartialEq, Eq)]
+pub struct Ends {
+    pub at: [usize; 33],
     pub hull: Interval,
 }
 
@@ -55,8 +62,8 @@ fn row_end(n: usize, rs: &[[i64; 4]], i: usize, from: usize, held: Interval) -> 
         columns: 0,
         hull: held,
     };
-    for k in from..rs.len() {
-        let t = record(rs, k);
+    for (k, r) in rs[from..].iter().enumerate() {
+        let t = Transfer::from(*r);
         if !is_in_row(i, t) {
             return Some(row);
         }
@@ -64,7 +71,7 @@ fn row_end(n: usize, rs: &[[i64; 4]], i: usize, from: usize, held: Interval) -> 
             return None;
         }
         row = Row {
-            end: k + 1,
+            end: from + k + 1,
             columns: t.giver as usize,
             hull: hull(row.hull, share(t)),
         };
@@ -73,10 +80,12 @@ fn row_end(n: usize, rs: &[[i64; 4]], i: usize, from: usize, held: Interval) -> 
 }
 
 // Where the rows end, one after the other; row i begins where the row before it ends. A hull of the shares, unless a record fails a test.
-fn find_rows(n: usize, rs: &[[i64; 4]], ends: &mut [usize]) -> Option<Interval>
-    requires { (n ≤ 32) × (length ends.old ≡ 33) × (get_or ends.old 0 0 ≡ 0) }
-    ensures { AllRows n (transfers_of rs.now) ends.new result }
+fn find_rows(n: usize, rs: &[[i64; 4]]) -> Option<Ends>
+    requires { n ≤ 32 }
+    ensures { AllRows n (transfers_of rs.now) result }
 {
+    // An array of fixed size, since there is no heap.
+    let mut ends = [0usize; 33];
     let mut from = 0;
     let mut all = Interval::ZERO;
     for i in 0..n {
@@ -91,16 +100,19 @@ fn find_rows(n: usize, rs: &[[i64; 4]], ends: &mut [usize]) -> Option<Interval>
     if from < rs.len() {
         return None;
     }
-    Some(all)
+    Some(Ends {
+        at: ends,
+        hull: all,
+    })
 }
 
 // All tests of the records: the list stands in rows, with this hull of its shares, or one of the tests fails. They are tried one after the other only then.
-pub fn tried_rows(n: usize, rs: &[[i64; 4]], ends: &mut [usize]) -> Result<Interval, Refusal>
-    requires { (n ≤ 32) × (length ends.old ≡ 33) × (get_or ends.old 0 0 ≡ 0) }
-    ensures { Told n (transfers_of rs.now) ends.new result }
+pub fn tried_rows(n: usize, rs: &[[i64; 4]]) -> Result<Ends, Refusal>
+    requires { n ≤ 32 }
+    ensures { Told n (transfers_of rs.now) result }
 {
-    match find_rows(n, rs, ends) {
-        Some(h) => Ok(h),
+    match find_rows(n, rs) {
+        Some(ends) => Ok(ends),
         None => Err(judged(n, rs).unwrap_err()),
     }
 }

@@ -27,13 +27,14 @@ pub fn few_enough(n: usize, count: usize) -> Result<(), Refusal>
     Ok(())
 }
 
-// The first n records, one after the other.
+// The records, one after the other.
 #[tactic(auto, using(crate::proofs::Gathered::put_more), unfolding(crate::specs::Code::records_of))]
-pub fn gather(ts: &[Transfer], n: usize, rs: &mut [[i64; 4]])
-    requires { (n ≤ length ts.now) × (n ≤ length rs.old) }
-    ensures { rs.new ≡ records_of (take n ts.now) ++ drop n rs.old }
+pub fn gather(ts: &[Transfer], rs: &mut [[i64; 4]])
+    requires { length ts.now ≤ length rs.old }
+    ensures { rs.new ≡ records_of ts.now ++ drop (length ts.now) rs.old }
 {
-    for (k, t) in ts[..n].iter().enumerate() {
+    // By index: of a slice that was written through iter_mut().zip(..) a proof knows the length alone.
+    for (k, t) in ts.iter().enumerate() {
         rs[k] = (*t).into();
     }
 }
@@ -56,7 +57,8 @@ pub fn swept(
             count: 0,
         };
     }
+    // An array of fixed size, since there is no heap.
     let mut values = [[0i64; 4]; 1024];
-    gather(ts, ts.len(), &mut values);
+    gather(ts, &mut values);
     swept_records(n, way, &values[..ts.len()], b, bounds, allowed)
 }

@@ -7,16 +7,15 @@ ghost use Rattle.transfers.specs.Rows.{InRange, Rows as InRows};
 
 use interval::Interval;
 
-// Row i has the records from ends[i] on and before ends[i + 1]. The hull holds all their shares.
+// Row i has the records from ends[i] on and before ends[i + 1]: places, of which row_sum in specs/Rows.antt speaks. The hull holds all their shares.
 #[derive(Clone, Copy)]
 pub struct Rows<'a> {
     pub n: usize,
     pub records: &'a [[i64; 4]],
-    pub ends: &'a [usize],
+    pub ends: &'a [usize; 33],
     pub hull: Interval,
     pub ghost few: { n ≤ 32 },
     pub ghost list: { length records.now ≤ 1_024 },
-    pub ghost room: { length ends.now ≡ 33 },
     pub ghost range: { InRange hull },
     pub ghost rows: { InRows n (transfers_of records.now) ends.now hull },
 }

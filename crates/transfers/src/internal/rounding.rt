@@ -1,42 +1,29 @@
-// The sum of a row rounded outward to units.
+// The sum of a row in two words, rounded outward to units.
 ghost use Rattle.std.specs.Prelude.{◌≡◌, pos};
 ghost use Rattle.integer.specs.Rounding.{floor_div, ceil_div};
 ghost use Rattle.interval.specs.Interval.{scale, rounded};
 ghost use Rattle.wide_sum.specs.Wide.{held_both};
 ghost use Rattle.wide_sum.specs.Code.{NearBoth};
 
-use integer::internal::{ceil_div, floor_div};
 use interval::Interval;
 use wide_sum::WideInterval;
-
-const SCALE: u64 = Interval::SCALE as u64;
-
-// From one word.
-#[tactic(auto, unfolding(interval::specs::Interval::rounded, interval::specs::Interval::scale))]
-pub fn rounded(v: Interval) -> Interval
-    ensures { result ≡ rounded scale v }
-{
-    let lo = floor_div(v.lo, Interval::SCALE);
-    let hi = ceil_div(v.hi, Interval::SCALE);
-    Interval { lo, hi }
-}
 
 // A number that is not below 0, rounded down and up.
 #[tactic(auto, using(crate::proofs::Rounding::floor_read))]
 fn floor(p: u64) -> i64
     ensures { result ≡ floor_div (pos p) scale }
 {
-    (p / SCALE) as i64
+    (p / Interval::SCALE_UNSIGNED) as i64
 }
 
 #[tactic(auto, using(crate::proofs::Rounding::ceil_read))]
 fn ceiling(p: u64) -> i64
     ensures { result ≡ ceil_div (pos p) scale }
 {
-    p.div_ceil(SCALE) as i64
+    p.div_ceil(Interval::SCALE_UNSIGNED) as i64
 }
 
-// From two words. Where the high ones are 0 the low ones are enough, and take less time.
+// Where the high words are 0 the low ones are enough, and take less time.
 #[tactic(auto, using(crate::proofs::Rounding::low_alone), unfolding(interval::specs::Interval::rounded, wide_sum::specs::Wide::held_both))]
 pub fn rounded_from_two(w: WideInterval) -> Interval
     requires { NearBoth 1_000 w }

@@ -30,7 +30,7 @@ fn place(n: usize, t: Transfer) -> usize
 }
 
 // Writes each record to its place, in one go with all its tests; stops at the first record that fails one.
-fn fill(n: usize, rs: &[[i64; 4]], square: &mut [i64]) -> bool
+fn fill(n: usize, rs: &[[i64; 4]], square: &mut [i64]) -> Option<()>
     requires { (n ≤ 32) × (2 * (n * n) ≤ length square.old) }
     ensures { Filled n (transfers_of rs.now) square.old result square.new }
 {
@@ -38,17 +38,17 @@ fn fill(n: usize, rs: &[[i64; 4]], square: &mut [i64]) -> bool
     for r in rs {
         let t = Transfer::from(*r);
         if !both_components(n, t) {
-            return false;
+            return None;
         }
         let p = place(n, t);
         let v = share(t);
         if p < next || !is_acceptable(v) {
-            return false;
+            return None;
         }
         write(square, p, v);
         next = p + 1;
     }
-    true
+    Some(())
 }
 
 // The records' tests; if they pass, the square of noughts at the beginning becomes that of the list.
@@ -56,8 +56,8 @@ pub fn enter(n: usize, rs: &[[i64; 4]], square: &mut [i64]) -> Result<(), Refusa
     requires { (n ≤ 32) × (2 * (n * n) ≤ length square.old) }
     ensures { Entered n (transfers_of rs.now) square.old result square.new }
 {
-    if fill(n, rs, square) {
-        return Ok(());
+    match fill(n, rs, square) {
+        Some(()) => Ok(()),
+        None => judged(n, rs),
     }
-    judged(n, rs)
 }

@@ -12,8 +12,10 @@ use interval::Interval;
 use interval::internal::product::{exact_product, product_above};
 use interval::internal::sum as add;
 
+// The time of a sweep is spent in these. That they become one function, as the marks ask, saves up to a quarter of it.
 impl Sums<'_> {
     // The share of the record k.
+    #[inline(always)]
     fn share(&self, k: usize) -> Interval
         requires { k < length self.now.rows.records.now }
         ensures { (result ≡ share (nth (transfers_of self.now.rows.records.now) k)) × (acceptable result ≡ true) }
@@ -22,6 +24,7 @@ impl Sums<'_> {
     }
 
     // The component of its giver.
+    #[inline(always)]
     fn component(&self, k: usize) -> Interval
         requires { k < length self.now.rows.records.now }
         ensures { (result ≡ component (transfers_of self.now.rows.records.now) self.now.x.now k) × (acceptable result ≡ true) }
@@ -32,7 +35,8 @@ impl Sums<'_> {
 
     // Their product; above says that neither is below 0. The signs of the component are looked at first, as in a row of a matrix.
     #[tactic(auto, using(interval::proofs::Exchanged::exchanged), unfolding(crate::specs::Rows::term))]
-    pub fn term(&self, above: bool, k: usize) -> Interval
+    #[inline(always)]
+    pub(crate) fn term(&self, above: bool, k: usize) -> Interval
         requires k_in_bounds { k < length self.now.rows.records.now }
         requires signs { above ≡ true → Above (transfers_of self.now.rows.records.now) self.now.x.now k }
         ensures { result ≡ term (transfers_of self.now.rows.records.now) self.now.x.now k }
@@ -47,7 +51,8 @@ impl Sums<'_> {
 
     // The products of the records k and k + 1 together, which fit one word.
     #[tactic(auto, unfolding(crate::specs::Rows::two_terms))]
-    pub fn two(&self, above: bool, k: usize) -> Interval
+    #[inline(always)]
+    pub(crate) fn two(&self, above: bool, k: usize) -> Interval
         requires k_in_bounds { k + 1 < length self.now.rows.records.now }
         requires signs { above ≡ true → BothAbove (transfers_of self.now.rows.records.now) self.now.x.now k }
         ensures { result ≡ two_terms (transfers_of self.now.rows.records.now) self.now.x.now k }
@@ -56,6 +61,7 @@ impl Sums<'_> {
     }
 
     // Whether neither the share of the record k nor its component is below 0.
+    #[inline(always)]
     fn is_above(&self, k: usize) -> bool
         requires { k < length self.now.rows.records.now }
         ensures { result ≡ true → Above (transfers_of self.now.rows.records.now) self.now.x.now k }
@@ -64,7 +70,8 @@ impl Sums<'_> {
     }
 
     // Whether nothing of the records k and k + 1 is below 0; above says so.
-    pub fn both_above(&self, above: bool, k: usize) -> bool
+    #[inline(always)]
+    pub(crate) fn both_above(&self, above: bool, k: usize) -> bool
         requires k_in_bounds { k + 1 < length self.now.rows.records.now }
         requires signs { above ≡ true → BothAbove (transfers_of self.now.rows.records.now) self.now.x.now k }
         ensures { result ≡ true → BothAbove (transfers_of self.now.rows.records.now) self.now.x.now k }

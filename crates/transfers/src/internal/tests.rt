@@ -1,4 +1,4 @@
-// The tests of a list of records, each as four numbers: receiver, giver, lower and upper share.
+// The tests of a list of records, each as four numbers: receiver, giver, lower and upper share. n and the records stay two parameters until they stand in rows: n ≤ 32 is all that is known of them.
 ghost use Rattle.std.specs.Prelude.{◌≡◌, ℕ, Bool, ◌-◌, ◌<◌, ◌≤◌, length};
 ghost use Rattle.outcome.specs.declared.Refusal.{Refusal};
 ghost use Rattle.transfers.specs.Listing.{listing, nth, share, sizes, is_component, both_components, tried, known, follows, ordered, shares, transfers_of};

@@ -7,8 +7,6 @@ use crate::{Wide, WideInterval};
 use integer::internal::{ceil_div, floor_div};
 use interval::Interval;
 
-const SCALE: u64 = Interval::SCALE as u64;
-
 // 2^64 in whole scales, and what is left of it.
 const SCALES: i64 = 18_446_744_073_709;
 
@@ -27,10 +25,20 @@ impl Wide {
         ensures { Parted self result }
     {
         Parts {
-            whole: self.high * SCALES + (self.low / SCALE) as i64,
-            part: self.high * LEFT + (self.low % SCALE) as i64,
+            whole: self.high * SCALES + (self.low / Interval::SCALE_UNSIGNED) as i64,
+            part: self.high * LEFT + (self.low % Interval::SCALE_UNSIGNED) as i64,
         }
     }
+}
+
+// Ends in one word, rounded outward to units.
+#[tactic(auto, unfolding(interval::specs::Interval::rounded, interval::specs::Interval::scale))]
+pub fn rounded(v: Interval) -> Interval
+    ensures { result ≡ rounded scale v }
+{
+    let lo = floor_div(v.lo, Interval::SCALE);
+    let hi = ceil_div(v.hi, Interval::SCALE);
+    Interval { lo, hi }
 }
 
 impl WideInterval {

@@ -19,14 +19,14 @@ copy_out-requires c = omega (arith, sums_end)
 pub renew-requires : goal.renew-requires
 renew-requires c =
     let w = spans _ c.args.n c.args.v refl c.first.ensures c.beside.ensures c.requires.n_bound.1 in
-    (w.box, c.copy_out.auto.x ∙ c.requires.n_bound.4)
+    (w.box, c.copy_out.auto.x ∙ c.requires.n_bound.3)
 
 -- what the renewal came to
 came : (c : After-renew) → let s = c.args in run_of c.renew.result c.renew.new.sums ≡ renewal (is_back s.way) s.state.now s.n s.v s.new
 came c =
     let s = c.args in
-    renewal_is (is_back s.way) s.state.now s.n s.v s.new _ _ _ c.requires.n_bound.3
-    (c.copy_out.ensures ∙ ap₂ (λ (l p : ℕ). take l (drop p s.state.now)) c.requires.n_bound.4 (c.sums_place.ensures ∙ ap sums_place c.other-ahead.ensures))
+    renewal_is (is_back s.way) s.state.now s.n s.v s.new _ _ _ c.requires.n_bound.2
+    (c.copy_out.ensures ∙ ap₂ (λ (l p : ℕ). take l (drop p s.state.now)) c.requires.n_bound.3 (c.sums_place.ensures ∙ ap sums_place c.other-ahead.ensures))
     c.read.ensures c.first.ensures c.beside.ensures c.renew.ensures
 
 pub returns-in_err-renew : goal.returns-in_err-renew
@@ -36,5 +36,5 @@ returns-in_err-renew c =
 
 pub returns : goal.returns
 returns c =
-    narrow_ends _ _ _ _ _ _ (came (goal.at.returns c).After-renew) (c.in_ok-renew.was {u = tt}) c.requires.n_bound.3 c.write.ensures
+    narrow_ends _ _ _ _ _ _ (came (goal.at.returns c).After-renew) (c.in_ok-renew.was {u = tt}) c.requires.n_bound.2 c.write.ensures
     (c.put_parts.ensures ∙ ap (λ (b : Bool). with_sums (with_box c.args.state.now c.write.new.s) b c.renew.new.sums) c.other-ahead.ensures)

@@ -12,7 +12,7 @@ use Rattle.half_rows.proofs.internal.operations.pass_on.Goals.{After-copy_out, t
 
 -- the copy of the box
 box : (c : After-copy_out) → c.copy_out.new.x ≡ box_of c.args.state.now c.args.n
-box c = c.copy_out.ensures ∙ ap (λ (l : ℕ). take l (drop 2 c.args.state.now)) c.requires.2
+box c = c.copy_out.ensures ∙ ap (λ (l : ℕ). take l (drop 2 c.args.state.now)) c.requires.1
 
 pub copy_out-requires-2 : goal.copy_out-requires-2
 copy_out-requires-2 c = omega (arith, sums_end)
@@ -40,13 +40,13 @@ invariant_of-pass-clause-right_sound c =
 
 pub run-requires : goal.run-requires
 run-requires c =
-    let l = c.copy_out.auto.x ∙ c.requires.2 in
-    (record { long = l; sound = not_err_sound _ c.args.n l c.intervals.ensures (sym c.is_err.ensures.value ∙ c.if-is_err.false) }, c.copy_out-2.auto.x ∙ c.requires.3)
+    let l = c.copy_out.auto.x ∙ c.requires.1 in
+    (record { long = l; sound = not_err_sound _ c.args.n l c.intervals.ensures (sym c.is_err.ensures.value ∙ c.if-is_err.false) }, c.copy_out-2.auto.x ∙ c.requires.2)
 
 pub returns : goal.returns
 returns c =
     pass_is _ _ _ (box (goal.at.returns c).After-copy_out) c.intervals.ensures (sym c.is_err.ensures.value ∙ c.if-is_err.false) c.intervals-else-is_err.ensures
     (sym c.is_err-else-is_err.ensures.value ∙ c.if-is_err-2.false)
-    (c.copy_out-2.ensures ∙ ap₂ (λ (l p : ℕ). take l (drop p c.args.state.now)) c.requires.3 c.sums_place.ensures)
+    (c.copy_out-2.ensures ∙ ap₂ (λ (l p : ℕ). take l (drop p c.args.state.now)) c.requires.2 c.sums_place.ensures)
     (c.sums_place-kept.ensures ∙ ap sums_place c.other.ensures)
     c.run.ensures

@@ -1,11 +1,8 @@
-use mathlib.Core.Path.{ap, ◌∙◌}
-use lib.IntN.{pos}
+use mathlib.Core.Path.{◌≡◌, ◌∙◌}
 use borrow.Author.Rules.{rules}
 use mir.Syntax.{w64}
 use mir.Val.{SFits}
 use mir.ValLaws.{to_z-of_z}
-use Rattle.integer.specs.Rounding.{floor_div, ceil_div}
-use Rattle.integer.proofs.Machine.{plain}
 use Rattle.interval.specs.Interval.{scale, rounded}
 use Rattle.wide_sum.specs.Wide.{held_both}
 use Rattle.half_rows.proofs.Short.{floor_handy, ceil_handy}
@@ -17,9 +14,9 @@ returns-in-Some-Some c =
     let s = c.in-Some-Some in
     let l : SFits w64 s.lo = search rules in
     let h : SFits w64 s.hi = search rules in
-    let f = plain _ c.floor_div.type_inv ∙ c.floor_div.ensures ∙ ap (λ z. floor_div z (pos 1000000)) (to_z-of_z w64 s.lo l) in
-    let g = plain _ c.ceil_div.type_inv ∙ c.ceil_div.ensures ∙ ap (λ z. ceil_div z (pos 1000000)) (to_z-of_z w64 s.hi h) in (
-      λ i. record { lo = (f ∙ ap (λ z. floor_div z (pos 1000000)) (s.ensures {u = tt})) i; hi = (g ∙ ap (λ z. ceil_div z (pos 1000000)) (s.ensures' {u = tt})) i },
-      rw f (floor_handy _ l),
-      rw g (ceil_handy _ h),
+    let e : c.rounded.result ≡ rounded scale (record { lo = s.lo; hi = s.hi }) =
+    c.rounded.ensures ∙ (λ i. rounded scale (record { lo = to_z-of_z w64 s.lo l i; hi = to_z-of_z w64 s.hi h i })) in (
+      e ∙ (λ i. rounded scale (record { lo = s.ensures {u = tt} i; hi = s.ensures' {u = tt} i })),
+      rw e (floor_handy _ l),
+      rw e (ceil_handy _ h),
     )

@@ -1,4 +1,4 @@
-use Rattle.std.proofs.Common.{rules, arith}
+use Rattle.std.proofs.Common.{arith}
 use Rattle.sweep.proofs.Tests.{ready as system_ready}
 use Rattle.transfers.specs.Listing.{Listing, listing, squared, transfers_of}
 use Rattle.transfers.proofs.Records.{length_transfers}
@@ -26,7 +26,6 @@ invariant_of-rows c =
     record {
       few = f.few;
       list = omega (arith, f.short, length_transfers c.args.rs.now);
-      room = search rules;
       range = c.in-Ok.ensures.2;
       rows = c.in-Ok.ensures.1;
     }

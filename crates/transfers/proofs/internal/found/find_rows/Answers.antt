@@ -1,4 +1,4 @@
-use Rattle.std.proofs.Common.{◌≡◌, length, arith}
+use Rattle.std.proofs.Common.{◌≡◌, refl, length, arith}
 use native.Mathlib.Nat.{sub-zero, zero-mul}
 use Rattle.interval.specs.Interval.{zero}
 use Rattle.transfers.specs.Listing.{transfers_of}
@@ -13,7 +13,7 @@ loop-i-init c =
     let ts = transfers_of c.args.rs.now in
     record {
       within = omega arith;
-      found = none_found _ _ c.requires.1 c.requires.2;
+      found = none_found _ _ refl refl;
       range = nought_range;
       held = holds_self zero;
       good = λ e. rw (sub-zero (length ts), zero-mul c.args.n) e;
@@ -48,7 +48,7 @@ pub returns-then-from-rs : goal.returns-then-from-rs
 returns-then-from-rs c = λ e.
     let n = c.args.n in
     let z : c.loop-i.i ≡ n = omega arith in
-    omega (arith, length_transfers c.args.rs.now, none_past n _ c.requires.0 c.loop-i.from (rw z at (c.loop-i.invariant.good e)))
+    omega (arith, length_transfers c.args.rs.now, none_past n _ c.requires c.loop-i.from (rw z at (c.loop-i.invariant.good e)))
 
 pub returns : goal.returns
 returns c =

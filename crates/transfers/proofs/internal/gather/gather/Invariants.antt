@@ -3,4 +3,4 @@ use Rattle.transfers.specs.Code.{records_of}
 use Rattle.transfers.proofs.internal.gather.gather.Given as goal
 
 abbrev pub invariant-loop-k : goal.invariant-loop-k
-invariant-loop-k l = l.rs ≡ records_of (take l.k l.t-items) ++ drop l.k l.initial.rs
+invariant-loop-k l = l.rs ≡ records_of (take l.k l.ts) ++ drop l.k l.initial.rs

@@ -1,10 +1,10 @@
-use Rattle.std.proofs.Common.{◌≡◌, ◌∙◌, length, rules, true, arith}
+use Rattle.std.proofs.Common.{◌≡◌, sym, ◌∙◌, length, rules, true, arith}
 use native.Mathlib.Nat.{sub-zero}
 use Rattle.interval.specs.Interval.{acceptable}
 use Rattle.inputs.specs.Place.{put}
 use Rattle.transfers.specs.Listing.{nth, share, both_components, place_of, transfers_of}
 use Rattle.transfers.proofs.Records.{nth_transfers, length_transfers}
-use Rattle.transfers.proofs.Filled.{filled_end, filled_go, fill_stopped, fill_done}
+use Rattle.transfers.proofs.Filled.{filled_end, filled_go}
 use Rattle.transfers.proofs.Good.{good_end, good_unknown, good_before, good_improper, good_go}
 use Rattle.transfers.proofs.internal.square.fill.Goals as goal
 use Rattle.transfers.proofs.internal.square.fill.Goals.{then-p-next-via-then-p-next, then-p-next-via-else-p-next+then-not-is_acceptable}
@@ -15,7 +15,7 @@ loop-r-init c = rw (length_transfers c.args.rs.now, sub-zero (length c.args.rs.n
 pub returns-then-not-both_components : goal.returns-then-not-both_components
 returns-then-not-both_components c =
     let e = nth_transfers c.args.rs.now c.loop-r.r-index in
-    fill_stopped (c.loop-r.invariant.good ∙ good_unknown _ _ _ _ _ c.loop-r-test.true cc)
+    c.loop-r.invariant.good ∙ good_unknown _ _ _ _ _ c.loop-r-test.true cc
 
 pub returns-then-p-next : goal.returns-then-p-next
 returns-then-p-next c =
@@ -25,8 +25,8 @@ returns-then-p-next c =
     let known : both_components c.args.n (nth (transfers_of c.args.rs.now) k) ≡ true = cc in
     let place : c.place-p.result ≡ place_of c.args.n (nth (transfers_of c.args.rs.now) k) = cc in
     elim c.then-p-next.branch [
-      | then-p-next-via-then-p-next w ↦ fill_stopped (v.good ∙ good_before _ _ _ _ _ c.loop-r-test.true known (omega (arith, place)))
-      | then-p-next-via-else-p-next+then-not-is_acceptable w ↦ fill_stopped (v.good ∙ good_improper _ _ _ _ _ c.loop-r-test.true known (omega (arith, place)) cc)
+      | then-p-next-via-then-p-next w ↦ v.good ∙ good_before _ _ _ _ _ c.loop-r-test.true known (omega (arith, place))
+      | then-p-next-via-else-p-next+then-not-is_acceptable w ↦ v.good ∙ good_improper _ _ _ _ _ c.loop-r-test.true known (omega (arith, place)) cc
     ]
 
 pub loop-r-preserved : goal.loop-r-preserved
@@ -47,4 +47,4 @@ loop-r-preserved c =
 pub returns : goal.returns
 returns c =
     let v = c.loop-r.invariant in
-    fill_done (v.good ∙ good_end _ _ _ _ _ c.loop-r-test.false) (v.matrix ∙ filled_end _ _ _ _ _ c.loop-r-test.false)
+    (v.good ∙ good_end _ _ _ _ _ c.loop-r-test.false, sym (v.matrix ∙ filled_end _ _ _ _ _ c.loop-r-test.false))

@@ -10,4 +10,4 @@ copy_out-requires c = omega (arith, sums_end, c.args.self.ready.few)
 pub returns : goal.returns
 returns c =
     let s = c.args.self in
-    loaded_over_lem c.args.t.now (system s.n s.matrix.now s.right.now) s.bounds.now c.sums_place.ensures c.requires.1 c.copy_out.ensures c.right_sums.ensures c.put_system.ensures c.commit.ensures
+    loaded_over_lem c.args.t.now (system s.n s.matrix.now s.right.now) s.bounds.now c.sums_place.ensures c.requires c.copy_out.ensures c.right_sums.ensures c.put_system.ensures c.commit.ensures

@@ -30,6 +30,12 @@ loop-j-preserved c =
 pub term-requires-clause-k_in_bounds : goal.term-requires-clause-k_in_bounds
 term-requires-clause-k_in_bounds c = omega (arith, span _ c.args.self.now.rows.rows c.args.i c.requires)
 
+pub added-requires : goal.added-requires
+added-requires c =
+    let s = c.args.self.now in
+    let w = span _ s.rows.rows c.args.i c.requires in
+    near_both_more (omega (arith, w.few, s.rows.few)) c.loop-j.invariant.near
+
 pub returns-then-pairs-count : goal.returns-then-pairs-count
 returns-then-pairs-count c =
     let s = c.args.self.now in
