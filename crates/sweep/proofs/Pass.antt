@@ -20,6 +20,7 @@ use Rattle.interval.proofs.Range.{is_sound, sound_accepted}
 use Rattle.fraction.specs.Meaning.{Contains}
 use Rattle.fraction.proofs.Contains.{contains_refl, contains_trans, intersection_narrows}
 use Rattle.inputs.specs.System.{System, system}
+use Rattle.inputs.specs.Code.{Sound}
 use Rattle.inputs.specs.Place.{at, put}
 use Rattle.inputs.proofs.Place.{length_put, sound_put, at_put_same, at_put_other}
 use Rattle.rows.specs.Sum.{RowSum, once}
@@ -29,7 +30,6 @@ use Rattle.std.specs.Prelude.{Result, Ok, Err}
 use Rattle.sweep.specs.declared.internal.pass.Way.{Way}
 use Rattle.sweep.specs.Pass.{component, along, up, differ}
 use Rattle.sweep.specs.Code.{Ready, pass, Narrowed, Passed}
-pub use Rattle.sweep.specs.Stays.{ready_after}
 use Rattle.sweep.proofs.Changed.{differ_self, differ_put}
 use Rattle.sweep.proofs.Turns.{back, pass_along}
 
@@ -87,6 +87,10 @@ module _ (sum : RowSum) {n : ℕ} {m r x : List ℤ} (w : Ready n m r x) (i : �
         right_sound = w.right_sound;
         box_sound = sound_put x i _ w.box_sound (omega (arith, w.box)) (component_accepted e);
       }
+
+-- a box that is as long, and of intervals
+pub ready_after : {n : ℕ} {m r x y : List ℤ} → Ready n m r x → length y ≡ length x → Sound y → Ready n m r y
+ready_after w l h = record { few = w.few; matrix = w.matrix; right = w.right; box = l ∙ w.box; matrix_sound = w.matrix_sound; right_sound = w.right_sound; box_sound = h }
 
 -- ---- a pass before the components of a list: the box so far, and whether it differs from the one before the pass
 pub record Halfway (s : System) (run : Run (List ℤ)) (is : List ℕ) (x₀ x : List ℤ) (changed : Bool) : Type 0 where

@@ -2,4 +2,3 @@ pub mod Pass
 pub mod Call
 pub mod Calls
 pub mod Code
-pub mod Stays

@@ -1,6 +1,6 @@
+ghost use Rattle.std.proofs.Common.{◌∙◌};
 ghost use Rattle.inputs.specs.System.{system};
 ghost use Rattle.sweep.specs.Code.{Ready};
-ghost use Rattle.sweep.specs.Stays.{ready_after};
 
 use crate::internal::balance::Balance;
 use interval::Interval;
@@ -20,7 +20,15 @@ impl<'a> Balance for Square<'a> {
 
     ghost all_sound = { λ b x w. w };
 
-    ghost stays_ready = { λ b x y w long sound inside. ready_after w long sound };
+    ghost stays_ready = { λ b x y w long sound inside. record {
+      few = w.few;
+      matrix = w.matrix;
+      right = w.right;
+      box = long ∙ w.box;
+      matrix_sound = w.matrix_sound;
+      right_sound = w.right_sound;
+      box_sound = sound;
+    } };
 
     fn size(&self) -> usize {
         self.n

@@ -1,7 +1,7 @@
 // The balance of a list, as the sweeps go over it.
 ghost use Rattle.integer.proofs.Order.{trans};
 ghost use Rattle.inputs.specs.System.{system};
-ghost use Rattle.sweep.specs.Stays.{ready_after};
+ghost use Rattle.sweep.proofs.Pass.{ready_after};
 ghost use Rattle.transfers.specs.Listing.{square, transfers_of};
 ghost use Rattle.transfers.specs.Rows.{Passable};
 
