@@ -13,7 +13,7 @@ use Rattle.outcome.specs.declared.Ending.TheVariants.{Done, Spent}
 use Rattle.outcome.specs.declared.Refusal.{Refusal}
 use Rattle.outcome.specs.Run.{Run, refused, done, returned, ended}
 use Rattle.inputs.specs.Tests.{Test}
-use Rattle.std.specs.Prelude.{Result, Ok, Err, is_ok}
+use Rattle.std.specs.Prelude.{Some, Result, Ok, Err, is_ok}
 use Rattle.inputs.specs.Tests.{tested}
 use Rattle.inputs.specs.System.{System}
 use Rattle.sweep.specs.declared.internal.pass.Way.TheVariants.{There, ThereAndBack}
@@ -147,10 +147,10 @@ module _ (t : Test) (l : Log) (x : List ℤ) where
 
 -- ---- the two calls, by the way that their passes go
 module _ (s : System) (k : ℕ) (x : List ℤ) where
-  pub sweep_called : call_over There s k x ≡ call s (sweep_call k) x
+  pub sweep_called : call_over (Some There) s k x ≡ call s (sweep_call k) x
   unfolding call_over returned_by run_by
   sweep_called = refl
 
-  pub symmetric_called : call_over ThereAndBack s k x ≡ call s (symmetric_call k) x
+  pub symmetric_called : call_over (Some ThereAndBack) s k x ≡ call s (symmetric_call k) x
   unfolding call_over returned_by run_by
   symmetric_called = refl

@@ -1,5 +1,5 @@
 -- One turn of a pass, and what stays true of the box.
-use mathlib.Core.Path.{◌≡◌, sym, ◌∙◌}
+use mathlib.Core.Path.{◌≡◌, refl, sym, ◌∙◌}
 use mathlib.Core.Bool.{Bool, true, false, ◌||◌}
 use mathlib.Core.List.{List, [], ◌∷◌, ◌++◌}
 use Prim.Native.Nat.{ℕ, ◌+◌, ◌-◌, ◌*◌, ◌<◌}
@@ -12,7 +12,7 @@ use lib.Signed.{◌≤ℤ◌}
 use Rattle.integer.proofs.Order.{left, trans}
 use Rattle.integer.proofs.Extremes.{le_max_right, min_le_right}
 use Rattle.outcome.specs.declared.Refusal.{Refusal}
-use Rattle.outcome.specs.Run.{Run}
+use Rattle.outcome.specs.Run.{Run, done}
 use Rattle.interval.specs.declared.Interval.{Interval}
 use Rattle.interval.specs.Interval.{acceptable, exact_sum, intersection, is_empty}
 use Rattle.interval.specs.Code.{Representable}
@@ -26,7 +26,7 @@ use Rattle.inputs.proofs.Place.{length_put, sound_put, at_put_same, at_put_other
 use Rattle.rows.specs.Sum.{RowSum, once}
 use Rattle.rows.proofs.Size.{small_fits, sum_small, acceptable_small}
 use Rattle.rows.proofs.Sum.{once_small}
-use Rattle.std.specs.Prelude.{Result, Ok, Err}
+use Rattle.std.specs.Prelude.{Some, Result, Ok, Err}
 use Rattle.sweep.specs.declared.internal.pass.Way.{Way}
 use Rattle.sweep.specs.Pass.{component, along, up, differ}
 use Rattle.sweep.specs.Code.{Ready, pass, Narrowed, Passed}
@@ -92,6 +92,10 @@ module _ (sum : RowSum) {n : ℕ} {m r x : List ℤ} (w : Ready n m r x) (i : �
 pub ready_after : {n : ℕ} {m r x y : List ℤ} → Ready n m r x → length y ≡ length x → Sound y → Ready n m r y
 ready_after w l h = record { few = w.few; matrix = w.matrix; right = w.right; box = l ∙ w.box; matrix_sound = w.matrix_sound; right_sound = w.right_sound; box_sound = h }
 
+-- a pass over nothing
+pub passed_nothing : (s : System) {x : List ℤ} → Sound x → Passed (done x) s.size x (Ok false) x
+passed_nothing s {x} h = record { is = refl; flagged = sym (differ_self x s.size 0); sound = h }
+
 -- ---- a pass before the components of a list: the box so far, and whether it differs from the one before the pass
 pub record Halfway (s : System) (run : Run (List ℤ)) (is : List ℕ) (x₀ x : List ℤ) (changed : Bool) : Type 0 where
   pub ready : Ready s.size s.matrix s.right x
@@ -99,7 +103,7 @@ pub record Halfway (s : System) (run : Run (List ℤ)) (is : List ℕ) (x₀ x :
   pub flag : changed ≡ differ x₀ x s.size 0
   pub inside : (j : ℕ) → Contains (at x₀ j) (at x j)
 
-pub halfway_start : (w : Way) (s : System) {x : List ℤ} → Ready s.size s.matrix s.right x → Halfway s (pass w s x) (up (s.size - 0) 0 ++ back w s.size) x x false
+pub halfway_start : (w : Way) (s : System) {x : List ℤ} → Ready s.size s.matrix s.right x → Halfway s (pass (Some w) s x) (up (s.size - 0) 0 ++ back w s.size) x x false
 halfway_start w s {x} r = record { ready = r; rest = rw sub-zero (pass_along w s x); flag = sym (differ_self x s.size 0); inside = λ j. contains_refl (at x j) }
 
 module _ {s : System} {run : Run (List ℤ)} {x₀ x : List ℤ} {c : Bool} where

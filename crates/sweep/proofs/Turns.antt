@@ -12,6 +12,7 @@ use Rattle.interval.specs.Interval.{is_empty}
 use Rattle.inputs.specs.Place.{put}
 use Rattle.inputs.specs.System.{System}
 use Rattle.rows.specs.Sum.{RowSum, once}
+use Rattle.std.specs.Prelude.{Some}
 use Rattle.sweep.specs.declared.internal.pass.Way.{Way}
 use Rattle.sweep.specs.declared.internal.pass.Way.TheVariants.{There, ThereAndBack}
 use Rattle.sweep.specs.Pass.{component, along, up, down, sweep, symmetric}
@@ -83,7 +84,7 @@ abbrev pub back : Way → (n : ℕ) → List ℕ
 back There n = []
 back ThereAndBack n = down n
 
-pub pass_along : (w : Way) (s : System) (X : List ℤ) → pass w s X ≡ along once s (up s.size 0 ++ back w s.size) X
+pub pass_along : (w : Way) (s : System) (X : List ℤ) → pass (Some w) s X ≡ along once s (up s.size 0 ++ back w s.size) X
 unfolding sweep
 pass_along There s X = ap (λ is. along once s is X) (sym (append-nil (up s.size 0)))
 pass_along ThereAndBack s X = symmetric_along once s X

@@ -1,5 +1,5 @@
 -- What the functions beneath the sweep call ask of what is lent and promise each other.
-use Rattle.std.specs.Prelude.{◌≡◌, Bool, true, false, Result, Ok, Err, is_ok, List, ℕ, ◌+◌, ◌*◌, ◌≤◌, ℤ, length}
+use Rattle.std.specs.Prelude.{◌≡◌, Option, Some, None, Bool, true, false, Result, Ok, Err, is_ok, List, ℕ, ◌+◌, ◌*◌, ◌≤◌, ℤ, length}
 use Rattle.outcome.specs.declared.Refusal.{Refusal}
 use Rattle.outcome.specs.declared.Refusal.TheVariants as refusal
 use Rattle.outcome.specs.Run.{Run, refused, done, Returned, returned, ended}
@@ -25,10 +25,11 @@ pub record Ready (n : ℕ) (m r x : List ℤ) : Type 0 where
   pub right_sound : Sound r
   pub box_sound : Sound x
 
--- a pass there, or there and back
-abbrev pub pass : Way → System → List ℤ → Run (List ℤ)
-pass There s = sweep once s
-pass ThereAndBack s = symmetric once s
+-- a pass there, or there and back; with no way it goes over nothing
+abbrev pub pass : Option Way → System → List ℤ → Run (List ℤ)
+pass None s = done
+pass (Some There) s = sweep once s
+pass (Some ThereAndBack) s = symmetric once s
 
 -- narrowing component i: where it is not empty, the box has it, and the flag says whether it differs from the old one
 abbrev pub Narrowed : System → (i : ℕ) → (before : List ℤ) → Result Bool Refusal → (after : List ℤ) → Type 0
@@ -63,5 +64,5 @@ pub record Ran (l : Log) (lent : List ℤ) (r : Swept) (after : List ℤ) : Type
   pub is : returned r.outcome r.count after ≡ concluded lent l
 
 -- what a call whose passes go this way returns and leaves
-unfoldable pub call_over : Way → System → (allowed : ℕ) → List ℤ → Returned (List ℤ)
+unfoldable pub call_over : Option Way → System → (allowed : ℕ) → List ℤ → Returned (List ℤ)
 call_over w s k X = ended (concluded X) X (run_over (pass w s) s k X)

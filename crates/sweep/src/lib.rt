@@ -24,7 +24,7 @@ pub fn sweep(n: usize, b_matrix: &[i64], b: &[i64], bounds: &mut [i64], allowed:
     ensures { returned result.outcome result.count bounds.new ≡
         call (system n b_matrix.now b.now) (sweep_call allowed) bounds.old }
 {
-    swept(n, Way::There, b_matrix, b, bounds, allowed)
+    swept(n, Some(Way::There), b_matrix, b, bounds, allowed)
 }
 
 #[tactic(auto, using(crate::proofs::Log::symmetric_called))]
@@ -39,5 +39,5 @@ pub fn symmetric_sweep(
     ensures { returned result.outcome result.count bounds.new ≡
         call (system n b_matrix.now b.now) (symmetric_call allowed) bounds.old }
 {
-    swept(n, Way::ThereAndBack, b_matrix, b, bounds, allowed)
+    swept(n, Some(Way::ThereAndBack), b_matrix, b, bounds, allowed)
 }

@@ -9,7 +9,7 @@ use lib.Seq.{paste}
 use Rattle.outcome.specs.declared.Refusal.{Refusal}
 use Rattle.outcome.specs.Run.{Run, and_then, returned, answered, ended}
 use Rattle.inputs.specs.Tests.{Test, both, proper, Part, all_proper, tested}
-use Rattle.std.specs.Prelude.{Result, Ok, Err, IsErrAnd}
+use Rattle.std.specs.Prelude.{Some, Result, Ok, Err, IsErrAnd}
 use Rattle.inputs.proofs.Tests.{both_pass, both_last, square as square_few}
 use Rattle.inputs.proofs.Copy.{fronted, pasted_both}
 use Rattle.inputs.specs.System as inputs
@@ -182,7 +182,7 @@ module _ (s : Listing) (X : List ℤ) where
   call_fails ThereAndBack k e = called (symmetric_call k) e
 
   pub call_runs : (w : Way) (k : ℕ) → sweep_tests s k X ≡ Ok tt → {r : Swept} {Y : List ℤ}
-      → Ran (sweeps s.size (pass w (squared s)) k X) X r Y → returned r.outcome r.count Y ≡ call_list s (of_way w k) X
+      → Ran (sweeps s.size (pass (Some w) (squared s)) k X) X r Y → returned r.outcome r.count Y ≡ call_list s (of_way w k) X
   unfolding returned_by sweep_list run_by tested ended
   call_runs There k e g = let t = (sweep_ready s k X e).tests in g.is ∙ rw (e, t)
   call_runs ThereAndBack k e g = let t = (sweep_ready s k X e).tests in g.is ∙ rw (e, t)

@@ -13,7 +13,7 @@ use inputs::internal::copy::copy_out;
 use outcome::Ending;
 
 // Passes over x until it settles, is found empty, or the sweeps allowed are spent.
-fn repeat<B: Balance>(balance: &B, way: Way, x: &mut [i64], allowed: usize) -> Swept
+fn repeat<B: Balance>(balance: &B, way: Option<Way>, x: &mut [i64], allowed: usize) -> Swept
     requires { B.is_ready balance.now x.old }
     ensures { Logged (sweeps (B.system balance.now).size (pass way (B.system balance.now)) allowed x.old)
         x.old result x.new }
@@ -44,7 +44,7 @@ fn repeat<B: Balance>(balance: &B, way: Way, x: &mut [i64], allowed: usize) -> S
 // The passes on a copy, x, of the lent box, which is written back unless it was found empty.
 fn tighten<B: Balance>(
     balance: &B,
-    way: Way,
+    way: Option<Way>,
     x: &mut [i64],
     bounds: &mut [i64],
     allowed: usize,
@@ -63,7 +63,7 @@ fn tighten<B: Balance>(
 }
 
 // The passes, after the tests.
-pub fn run<B: Balance>(balance: &B, way: Way, bounds: &mut [i64], allowed: usize) -> Swept
+pub fn run<B: Balance>(balance: &B, way: Option<Way>, bounds: &mut [i64], allowed: usize) -> Swept
     requires { B.is_ready balance.now bounds.old }
     ensures { Ran (sweeps (B.system balance.now).size (pass way (B.system balance.now)) allowed bounds.old)
         bounds.old result bounds.new }
@@ -73,10 +73,10 @@ pub fn run<B: Balance>(balance: &B, way: Way, bounds: &mut [i64], allowed: usize
     tighten(balance, way, &mut x[..2 * balance.size()], bounds, allowed)
 }
 
-// The call, with passes there alone or there and back.
+// The call, with passes there alone, there and back, or over nothing.
 pub fn swept(
     n: usize,
-    way: Way,
+    way: Option<Way>,
     matrix: &[i64],
     right: &[i64],
     bounds: &mut [i64],

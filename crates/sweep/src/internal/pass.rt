@@ -46,12 +46,15 @@ fn narrow<B: Balance>(balance: &B, i: usize, x: &mut [i64]) -> Result<bool, Refu
     Ok(old != v)
 }
 
-// The same of a whole pass over x.
-pub fn pass_once<B: Balance>(balance: &B, way: Way, x: &mut [i64]) -> Result<bool, Refusal>
+// The same of a whole pass over x; with no way it goes over nothing.
+pub fn pass_once<B: Balance>(balance: &B, way: Option<Way>, x: &mut [i64]) -> Result<bool, Refusal>
     requires { B.is_ready balance.now x.old }
     ensures passed { Passed (pass way (B.system balance.now) x.old) (B.system balance.now).size x.old result x.new }
     ensures ready { B.is_ready balance.now x.new }
 {
+    let Some(way) = way else {
+        return Ok(false);
+    };
     let n = balance.size();
     let mut changed = false;
     for i in 0..n {

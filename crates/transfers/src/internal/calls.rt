@@ -93,7 +93,7 @@ pub fn swept_records<'a>(
                 right: b,
                 above: are_above(ends.hull, bounds, n),
             };
-            run(&listed, way, bounds, allowed)
+            run(&listed, Some(way), bounds, allowed)
         }
         Err(o) => Swept {
             outcome: Err(o),

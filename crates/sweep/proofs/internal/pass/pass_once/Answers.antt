@@ -6,22 +6,25 @@ use Rattle.outcome.proofs.Run.{carried}
 use Rattle.sweep.specs.Pass.{up, down}
 use Rattle.sweep.specs.Code.{pass}
 use Rattle.sweep.proofs.Turns.{back, up_more, up_end, down_more, down_end}
-use Rattle.sweep.proofs.Pass.{Halfway, halfway_start, halfway_go, passed, passed_stop}
+use Rattle.sweep.proofs.Pass.{Halfway, halfway_start, halfway_go, passed, passed_stop, passed_nothing}
 use Rattle.sweep.proofs.internal.pass.pass_once.Goals as goal
 use Rattle.sweep.proofs.internal.pass.pass_once.Goals.{In-loop-i, After-loop-i, In-loop-i-2}
 
+pub returns-in_default-clause-passed : goal.returns-in_default-clause-passed
+returns-in_default-clause-passed g c = rw c.in_default.is (passed_nothing (g.B.Balance.system c.args.balance.now) (g.met.B.Balance.all_sound _ _ c.requires).box_sound)
+
 pub loop-i-init : goal.loop-i-init
-loop-i-init g c = halfway_start c.args.way (g.B.Balance.system c.args.balance.now) (g.met.B.Balance.all_sound _ _ c.requires)
+loop-i-init g c = rw c.in-Some.is (halfway_start c.in-Some.way (g.B.Balance.system c.args.balance.now) (g.met.B.Balance.all_sound _ _ c.requires))
 
 -- component i is the next, on the way there and on the way back; between them nothing but the way back is left
 next : (g : _) (c : In-loop-i g) →
     let s = g.B.Balance.system c.args.balance.now in
-    Halfway s (pass c.args.way s c.args.x.now) (c.loop-i.i ∷ (up (s.size - (c.loop-i.i + 1)) (c.loop-i.i + 1) ++ back c.args.way s.size)) c.args.x.now c.loop-i.x c.loop-i.changed
+    Halfway s (pass c.args.way s c.args.x.now) (c.loop-i.i ∷ (up (s.size - (c.loop-i.i + 1)) (c.loop-i.i + 1) ++ back c.in-Some.way s.size)) c.args.x.now c.loop-i.x c.loop-i.changed
 next g c = rw (up_more (rw c.size-n.ensures at c.loop-i-test.true)) at c.loop-i.invariant
 
 turned : (g : _) (c : After-loop-i g) →
     let s = g.B.Balance.system c.args.balance.now in
-    Halfway s (pass c.args.way s c.args.x.now) (back c.args.way s.size) c.args.x.now c.loop-i.x c.loop-i.changed
+    Halfway s (pass c.args.way s c.args.x.now) (back c.in-Some.way s.size) c.args.x.now c.loop-i.x c.loop-i.changed
 turned g c = rw (up_end (rw c.size-n.ensures at c.loop-i-test.false)) at c.loop-i.invariant
 
 next_back : (g : _) (c : In-loop-i-2 g) →
