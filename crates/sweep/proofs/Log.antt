@@ -26,21 +26,21 @@ use Rattle.outcome.specs.declared.Ending.TheVariants.{Done, Spent}
 
 -- ---- what a turn does; the sweeps left are allowed − k
 module _ (n : ℕ) (p : List ℤ → Run (List ℤ)) (allowed k : ℕ) (x : List ℤ) where
-  sweeps_spent : allowed ≤ k → sweeps n p (allowed - k) x ≡ spent
+  pub sweeps_spent : allowed ≤ k → sweeps n p (allowed - k) x ≡ spent
   unfolding sweeps
   sweeps_spent h = let e : allowed - k ≡ 0 = omega arith in rw e
 
   module _ (h : k < allowed) where
-    sweeps_stopped : {o : Refusal} → p x ≡ refused o → sweeps n p (allowed - k) x ≡ stopped o
+    pub sweeps_stopped : {o : Refusal} → p x ≡ refused o → sweeps n p (allowed - k) x ≡ stopped o
     unfolding sweeps
     sweeps_stopped f = let e : allowed - k ≡ suc (allowed - (k + 1)) = omega arith in rw (e, f)
 
     module _ {y : List ℤ} (f : p x ≡ done y) where
-      sweeps_settled : differ x y n 0 ≡ false → sweeps n p (allowed - k) x ≡ swept y settled
+      pub sweeps_settled : differ x y n 0 ≡ false → sweeps n p (allowed - k) x ≡ swept y settled
       unfolding sweeps
       sweeps_settled g = let e : allowed - k ≡ suc (allowed - (k + 1)) = omega arith in rw (e, f, g)
 
-      sweeps_go : differ x y n 0 ≡ true → sweeps n p (allowed - k) x ≡ swept y (sweeps n p (allowed - (k + 1)) y)
+      pub sweeps_go : differ x y n 0 ≡ true → sweeps n p (allowed - k) x ≡ swept y (sweeps n p (allowed - (k + 1)) y)
       unfolding sweeps
       sweeps_go g = let e : allowed - k ≡ suc (allowed - (k + 1)) = omega arith in rw (e, f, g)
 
@@ -50,11 +50,11 @@ pub record Since (l₀ : Log) (x₀ : List ℤ) (k : ℕ) (l : Log) (x : List �
   pub counted : count l₀ ≡ k + count l
   pub box : (lent : List ℤ) → last l₀ lent x₀ ≡ last l lent x
 
-since_start : (l : Log) (x : List ℤ) → Since l x 0 l x
+pub since_start : (l : Log) (x : List ℤ) → Since l x 0 l x
 since_start l x = record { ending = refl; counted = sym (zero-add (count l)); box = λ lent. refl }
 
 module _ {l₀ : Log} {x₀ : List ℤ} {k : ℕ} {l : Log} {x : List ℤ} (s : Since l₀ x₀ k l x) where
-  since_more : {l₁ : Log} {y : List ℤ} → l ≡ swept y l₁ → Since l₀ x₀ (k + 1) l₁ y
+  pub since_more : {l₁ : Log} {y : List ℤ} → l ≡ swept y l₁ → Since l₀ x₀ (k + 1) l₁ y
   since_more {l₁} {y} e =
       let f : k + suc (count l₁) ≡ k + 1 + count l₁ = omega arith in
       record {
@@ -76,24 +76,24 @@ module _ {l₀ : Log} {x₀ : List ℤ} {k : ℕ} {l : Log} {x : List ℤ} (s : 
         lent = λ u lent. h u lent ∙ sym (s.box lent);
       }
 
-  logged_refused : {o : Refusal} (y : List ℤ) → l ≡ stopped o → Logged l₀ x₀ (record { outcome = Err o; count = k }) y
+  pub logged_refused : {o : Refusal} (y : List ℤ) → l ≡ stopped o → Logged l₀ x₀ (record { outcome = Err o; count = k }) y
   logged_refused {o} y e = logged_end (Err o) (ap ending e) (omega (arith, ap count e)) (λ u lent. cc) (λ u lent. sym (ap (λ a. last a lent x) e))
 
-  logged_settled : l ≡ settled → Logged l₀ x₀ (record { outcome = Ok Done; count = k }) x
+  pub logged_settled : l ≡ settled → Logged l₀ x₀ (record { outcome = Ok Done; count = k }) x
   logged_settled e = logged_end (Ok Done) (ap ending e) (omega (arith, ap count e)) (λ u lent. sym (ap (λ a. last a lent x) e)) (λ u lent. cc)
 
-  logged_spent : {c : ℕ} → l ≡ spent → k ≡ c → Logged l₀ x₀ (record { outcome = Ok Spent; count = c }) x
+  pub logged_spent : {c : ℕ} → l ≡ spent → k ≡ c → Logged l₀ x₀ (record { outcome = Ok Spent; count = c }) x
   logged_spent e f = logged_end (Ok Spent) (ap ending e) (omega (arith, ap count e, f)) (λ u lent. sym (ap (λ a. last a lent x) e)) (λ u lent. cc)
 
 -- ---- what one pass was
 module _ {run : Run (List ℤ)} {n : ℕ} {x : List ℤ} {r : Result Bool Refusal} {y : List ℤ} (h : Passed run n x r y) where
-  was_refused : {o : Refusal} → r ≡ Err o → run ≡ refused o
+  pub was_refused : {o : Refusal} → r ≡ Err o → run ≡ refused o
   was_refused e = sym h.is ∙ ap (λ a. run_of a y) e
 
-  was_whole : {c : Bool} → r ≡ Ok c → run ≡ done y
+  pub was_whole : {c : Bool} → r ≡ Ok c → run ≡ done y
   was_whole e = sym h.is ∙ ap (λ a. run_of a y) e
 
-  was_flagged : {c : Bool} → r ≡ Ok c → c ≡ differ x y n 0
+  pub was_flagged : {c : Bool} → r ≡ Ok c → c ≡ differ x y n 0
   was_flagged e = subst (Flagged n x y) e h.flagged
 
 -- ---- the call's loop: k whole sweeps are done, and the box is x

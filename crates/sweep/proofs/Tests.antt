@@ -1,9 +1,9 @@
 -- The tests of a call, one after the other, and what they say when they pass.
 use mathlib.Core.Path.{◌≡◌, sym, ◌∙◌}
 use mathlib.Core.List.{List, [], ◌∷◌}
-use Prim.Native.Nat.{ℕ, ◌+◌, ◌*◌, ◌≤◌}
+use Prim.Native.Nat.{ℕ, ◌+◌, ◌*◌, ◌≤◌, ◌<◌}
 use native.Mathlib.Nat.{zero-add}
-use borrow.Author.Tests.{leb-true}
+use borrow.Author.Tests.{le-leb, lt-leb, leb-true}
 use lib.Dec.{leb}
 use lib.IntN.{ℤ}
 use lib.ListN.{length}
@@ -11,7 +11,7 @@ use Rattle.outcome.specs.declared.Refusal.{Refusal}
 use Rattle.outcome.specs.declared.Refusal.TheVariants as refusal
 use Rattle.interval.proofs.Range.{and_both}
 use Rattle.std.specs.Prelude.{Ok, Err}
-use Rattle.inputs.specs.Tests.{both, sizes, proper, Part, all_proper}
+use Rattle.inputs.specs.Tests.{both, need, sizes, proper, Part, all_proper}
 use Rattle.inputs.specs.System.{System, system, slices}
 use Rattle.inputs.proofs.Tests.{both_pass, both_go, both_last, need_pass}
 use Rattle.inputs.proofs.System.{Fitting, sizes_fitting, parts_go, parts_proper}
@@ -20,9 +20,22 @@ use Rattle.sweep.specs.Call.{allowance, tests}
 use Rattle.sweep.specs.Code.{Ready}
 
 -- ---- test 4
-allowance_pass : (k : ℕ) → allowance k ≡ Ok tt → k ≤ 10000
-unfolding allowance
-allowance_pass k e = leb-true k 10000 (and_both (leb 1 k) (leb k 10000) (need_pass _ refusal.Allowed e)).1
+module _ (k : ℕ) where
+  pub allowance_yes : 1 ≤ k → k ≤ 10000 → Ok tt ≡ allowance k
+  unfolding allowance need
+  allowance_yes h g = rw (le-leb 1 k h, le-leb k 10000 g)
+
+  pub allowance_low : k < 1 → Err refusal.Allowed ≡ allowance k
+  unfolding allowance need
+  allowance_low h = rw (lt-leb 1 k h)
+
+  pub allowance_high : 1 ≤ k → 10000 < k → Err refusal.Allowed ≡ allowance k
+  unfolding allowance need
+  allowance_high h g = rw (le-leb 1 k h, lt-leb k 10000 g)
+
+  allowance_pass : allowance k ≡ Ok tt → k ≤ 10000
+  unfolding allowance
+  allowance_pass e = leb-true k 10000 (and_both (leb 1 k) (leb k 10000) (need_pass _ refusal.Allowed e)).1
 
 -- ---- in sequence
 -- what follows matrix and right side
