@@ -28,7 +28,8 @@ use Rattle.rows.proofs.Size.{small_fits, sum_small, acceptable_small}
 use Rattle.rows.proofs.Sum.{once_small}
 use Rattle.std.specs.Prelude.{Some, Result, Ok, Err}
 use Rattle.sweep.specs.declared.internal.pass.Way.{Way}
-use Rattle.sweep.specs.Pass.{component, along, up, differ}
+use Rattle.sweep.specs.declared.internal.pass.Way.TheVariants.{ThereAndBack}
+use Rattle.sweep.specs.Pass.{component, along, up, down, differ}
 use Rattle.sweep.specs.Code.{Ready, pass, Narrowed, Passed}
 use Rattle.sweep.proofs.Changed.{differ_self, differ_put}
 use Rattle.sweep.proofs.Turns.{back, pass_along}
@@ -110,6 +111,10 @@ module _ {s : System} {run : Run (List ℤ)} {x₀ x : List ℤ} {c : Bool} wher
   pub passed : {is : List ℕ} → is ≡ [] → Halfway s run is x₀ x c → Passed run s.size x₀ (Ok c) x
   unfolding along
   passed e w = record { is = sym (w.rest ∙ rw e); flagged = w.flag; sound = w.ready.box_sound }
+
+  -- what is left after the way there is all of the way back, from whatever is the number of components
+  pub halfway_back : {w : Way} {k : ℕ} → w ≡ ThereAndBack → k ≡ s.size → Halfway s run (back w s.size) x₀ x c → Halfway s run (down k) x₀ x c
+  halfway_back e f h = rw f (rw e at h)
 
   module _ {i : ℕ} {is : List ℕ} {y : List ℤ} (w : Halfway s run (i ∷ is) x₀ x c) where
     pub passed_stop : {r : Result Bool Refusal} {o : Refusal} → r ≡ Err o → Narrowed s i x (Err o) y → Passed run s.size x₀ r y

@@ -6,7 +6,7 @@ use Rattle.outcome.proofs.Run.{carried}
 use Rattle.sweep.specs.Pass.{up, down}
 use Rattle.sweep.specs.Code.{pass}
 use Rattle.sweep.proofs.Turns.{back, up_more, up_end, down_more, down_end}
-use Rattle.sweep.proofs.Pass.{Halfway, halfway_start, halfway_go, passed, passed_stop, passed_nothing}
+use Rattle.sweep.proofs.Pass.{Halfway, halfway_start, halfway_back, halfway_go, passed, passed_stop, passed_nothing}
 use Rattle.sweep.proofs.internal.pass.pass_once.Goals as goal
 use Rattle.sweep.proofs.internal.pass.pass_once.Goals.{In-loop-i, After-loop-i, In-loop-i-2}
 
@@ -41,8 +41,7 @@ pub loop-i-preserved : goal.loop-i-preserved
 loop-i-preserved g c = halfway_go (next g (goal.at.loop-i-preserved g c).In-loop-i) (rw c.size-n.ensures at c.loop-i-test.true) c.in_ok-changed.ensures
 
 pub loop-i-2-init : goal.loop-i-2-init
-loop-i-2-init g c =
-    rw (c.size-n.ensures, ← (ap (λ w. back w (g.B.Balance.system c.args.balance.now).size) c.in-ThereAndBack.is)) (turned g (goal.at.loop-i-2-init g c).After-loop-i)
+loop-i-2-init g c = halfway_back c.in-ThereAndBack.is (omega (arith, c.size-n.ensures)) (turned g (goal.at.loop-i-2-init g c).After-loop-i)
 
 pub returns-in_err-changed-in-ThereAndBack-clause-passed : goal.returns-in_err-changed-in-ThereAndBack-clause-passed
 returns-in_err-changed-in-ThereAndBack-clause-passed g c =
