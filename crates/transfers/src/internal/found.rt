@@ -4,7 +4,7 @@ ghost use Rattle.transfers.specs.Listing.{transfers_of};
 ghost use Rattle.transfers.specs.Rows.{hull, Short, Later, RowFound, AllRows, Told};
 
 use crate::Transfer;
-use crate::internal::tests::{judged, share};
+use crate::internal::tests::{judged, record, share};
 use interval::Interval;
 use interval::internal::in_range;
 use outcome::Refusal;
@@ -62,8 +62,9 @@ fn row_end(n: usize, rs: &[[i64; 4]], i: usize, from: usize, held: Interval) -> 
         columns: 0,
         hull: held,
     };
-    for (k, r) in rs[from..].iter().enumerate() {
-        let t = Transfer::from(*r);
+    // By place: by an iterator over the rest of the list it takes up to a third more time.
+    for k in from..rs.len() {
+        let t = record(rs, k);
         if !is_in_row(i, t) {
             return Some(row);
         }
@@ -71,7 +72,7 @@ fn row_end(n: usize, rs: &[[i64; 4]], i: usize, from: usize, held: Interval) -> 
             return None;
         }
         row = Row {
-            end: from + k + 1,
+            end: k + 1,
             columns: t.giver as usize,
             hull: hull(row.hull, share(t)),
         };

@@ -1,10 +1,10 @@
-use Rattle.std.proofs.Common.{◌≡◌, ◌+◌, sym, ap, subst, ◌∙◌, arith, rules, w64, pos, nat_abs}
+use Rattle.std.proofs.Common.{◌≡◌, ◌+◌, ◌<◌, sym, ap, subst, ◌∙◌, arith, rules, w64, pos, nat_abs, length}
 use lib.Dec.{T}
 use mir.Val.{SFits, to_z, of_z}
 use mir.ValLaws.{to_z-of_z}
 use Rattle.transfers.specs.Listing.{nth, share, transfers_of}
 use Rattle.transfers.specs.Rows.{hull}
-use Rattle.transfers.proofs.Records.{length_transfers, rest_length, rest_below, rest_nth}
+use Rattle.transfers.proofs.Records.{length_transfers}
 use Rattle.transfers.proofs.RowEnd.{one_more, row_ends, holds_trans, hull_left, kept_last, kept_past, kept_goes, kept_more}
 use Rattle.transfers.proofs.internal.found.row_end.Goals as goal
 
@@ -12,8 +12,8 @@ pub returns-then-not-is_in_row : goal.returns-then-not-is_in_row
 returns-then-not-is_in_row c =
     let ts = transfers_of c.args.rs.now in
     let v = c.loop-k.invariant in
-    let z = rest_below c.args.rs.now c.args.from v.end c.loop-k-test.true in
-    let t = rest_nth c.args.rs.now c.args.from c.loop-k.k v.end c.from-t.ensures in
+    let z : c.loop-k.row.end < length ts = omega (arith, length_transfers c.args.rs.now, v.end, c.loop-k-test.true) in
+    let t = c.record-t.ensures ∙ sym (ap (nth ts) v.end) in
     record {
       held = v.held;
       is = λ h. row_ends _ _ _ _ v.so_far h (omega arith);
@@ -25,8 +25,8 @@ returns-then-not-goes_on c = λ r e.
     let ts = transfers_of c.args.rs.now in
     let v = c.loop-k.invariant in
     let k = c.loop-k.row.end in
-    let z = rest_below c.args.rs.now c.args.from v.end c.loop-k-test.true in
-    let t = rest_nth c.args.rs.now c.args.from c.loop-k.k v.end c.from-t.ensures in
+    let z : c.loop-k.row.end < length ts = omega (arith, length_transfers c.args.rs.now, v.end, c.loop-k-test.true) in
+    let t = c.record-t.ensures ∙ sym (ap (nth ts) v.end) in
     let own = c.is_in_row.ensures.0 c.if-not-is_in_row.false in
     let i : (nth ts k).receiver ≡ pos (c.args.i + 1) = cc in
     let w = kept_goes _ _ c.requires.0 _ _ _ (v.kept c.requires.0) c.requires.1 z i r e in
@@ -37,16 +37,17 @@ loop-k-preserved c =
     let ts = transfers_of c.args.rs.now in
     let v = c.loop-k.invariant in
     let k = c.loop-k.row.end in
-    let z = rest_below c.args.rs.now c.args.from v.end c.loop-k-test.true in
-    let t = rest_nth c.args.rs.now c.args.from c.loop-k.k v.end c.from-t.ensures in
+    let z : c.loop-k.row.end < length ts = omega (arith, length_transfers c.args.rs.now, v.end, c.loop-k-test.true) in
+    let t = c.record-t.ensures ∙ sym (ap (nth ts) v.end) in
     let own = c.is_in_row.ensures.0 c.if-not-is_in_row.false in
     let i : (nth ts k).receiver ≡ pos (c.args.i + 1) = cc in
     let l = c.goes_on.ensures.0 c.if-not-goes_on.false in
-    let f : SFits w64 c.from-t.result.giver = search rules in
-    let p : nat_abs (to_z w64 (of_z w64 c.from-t.result.giver)) ≡ nat_abs (nth ts k).giver = ap nat_abs (to_z-of_z w64 c.from-t.result.giver f) ∙ cc in
+    let f : SFits w64 c.record-t.result.giver = search rules in
+    let p : nat_abs (to_z w64 (of_z w64 c.record-t.result.giver)) ≡ nat_abs (nth ts k).giver = ap nat_abs (to_z-of_z w64 c.record-t.result.giver f) ∙ cc in
     let h : c.hull.result ≡ hull c.loop-k.row.hull (share (nth ts k)) = cc in
     record {
       end = search rules;
+      inside = omega arith;
       few = rw p (rw t at l.0).few;
       held = rw h (holds_trans (hull_left _ _) v.held);
       so_far = rw (← v.end, p, h) (one_more _ _ _ _ v.so_far c.requires.1 z i (rw t at l.0) (rw t at l.1));
@@ -57,9 +58,8 @@ pub returns : goal.returns
 returns c =
     let v = c.loop-k.invariant in
     let z = length_transfers c.args.rs.now in
-    let r = rest_length c.args.rs.now c.args.from in
     record {
       held = v.held;
-      is = λ h. row_ends _ _ _ _ v.so_far h (omega (arith, z, r, v.end));
-      passes = kept_last _ _ c.requires.0 _ _ _ (v.kept c.requires.0) (omega (arith, z, r, v.end));
+      is = λ h. row_ends _ _ _ _ v.so_far h (omega (arith, z, v.end, v.inside));
+      passes = kept_last _ _ c.requires.0 _ _ _ (v.kept c.requires.0) (omega (arith, z, v.end, v.inside));
     }

@@ -1,4 +1,4 @@
-use Rattle.std.proofs.Common.{◌≡◌, ◌+◌, ◌≤◌}
+use Rattle.std.proofs.Common.{◌≡◌, ◌≤◌, length}
 use Rattle.transfers.specs.Listing.{transfers_of}
 use Rattle.transfers.specs.Rows.{Holds}
 use Rattle.transfers.proofs.RowEnd.{SoFar, Kept}
@@ -7,7 +7,8 @@ use Rattle.transfers.proofs.internal.found.row_end.Given as goal
 -- the row so far
 abbrev pub invariant-loop-k : goal.invariant-loop-k
 invariant-loop-k l = record {
-  end : l.row.end ≡ l.from + l.k;
+  end : l.row.end ≡ l.k;
+  inside : l.k ≤ length l.rs;
   few : l.row.columns ≤ 9_223_372_036_854_775_807;
   held : Holds l.row.hull l.fn.held;
   so_far : SoFar l.n (transfers_of l.rs) l.i l.from l.row.end l.row.columns l.row.hull;
