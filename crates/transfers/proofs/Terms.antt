@@ -1,6 +1,6 @@
 -- The rows of a list, and the products of their records: what they need, and how great one or two of them are.
-use mathlib.Core.Path.{◌≡◌}
-use mathlib.Core.Bool.{true}
+use mathlib.Core.Path.{◌≡◌, refl}
+use mathlib.Core.Bool.{Bool, true}
 use mathlib.Core.List.{List}
 use Prim.Native.Nat.{ℕ, zero, suc, ◌+◌, ◌-◌, ◌*◌, ◌≤◌, ◌<◌}
 use native.Mathlib.Omega.{arith}
@@ -20,7 +20,7 @@ use Rattle.rows.specs.Word.{NoneBelow}
 use Rattle.rows.proofs.Size.{Small, sum_small, exact_product_small, small_fits}
 use Rattle.transfers.specs.declared.Transfer.{Transfer}
 use Rattle.transfers.specs.Listing.{nth, share, is_component, transfers_of}
-use Rattle.transfers.specs.Rows.{InRange, InRow, Rows, Short, Above, BothAbove, end, term, two_terms}
+use Rattle.transfers.specs.Rows.{InRange, InRow, Rows, Short, Above, BothAbove, Factors, Pair, end, term, two_terms}
 use Rattle.transfers.proofs.Records.{length_transfers}
 use Rattle.transfers.proofs.Component.{giver}
 use Rattle.transfers.proofs.RowEnd.{row_acceptable}
@@ -76,26 +76,15 @@ module _ {n : ℕ} (rs : List (List ℤ)) {ends : List ℕ} {h : Interval} (w : 
     pub above_known : {x : List ℤ} → (pos 0 ≤ℤ h.lo) × NoneBelow x → Above ts x k
     above_known b = record { share_above = trans b.0 (own_row l).1.held.low; component_above = b.1.each _ }
 
-    -- ---- its product
-    module _ {x : List ℤ} (y : Sound x) where
-      pub term_small : InRange h → Small 4000000000000000000 (term ts x k)
-      unfolding term
-      term_small r = exact_product_small _ _ (proper r) (y.each _)
+    -- it can be multiplied
+    pub factors : {x : List ℤ} {a : Bool} → InRange h → (a ≡ true → Above ts x k) → Factors n ts x a k
+    factors r o = record { inside = inside; proper = proper r; over = λ e. ((o e).share_above, (o e).component_above) }
 
-      -- where shares are short, so is it
+    -- where shares are short, so is its product
+    module _ {x : List ℤ} (y : Sound x) where
       pub term_short : Short h → Small 268435456000000000 (term ts x k)
       unfolding term
       term_short s = let r = (own_row l).1 in product_short _ _ (short_held s r.held) r.order (y.each _)
-
-      pub term_above : InRange h → Above ts x k → (pos 0 ≤ℤ (term ts x k).lo) × (pos 0 ≤ℤ (term ts x k).hi)
-      unfolding term exact_product
-      term_above r o =
-          let low : pos 0 ≤ℤ (term ts x k).lo =
-          rw (above_least_above (is_sound _ (proper r)) (is_sound _ (y.each (nat_abs (nth ts k).giver - 1))) o.share_above o.component_above) (go _ _ o.share_above o.component_above) in
-          (low, trans low (term_small r).order)
-        where
-          go : (a b : ℤ) → pos 0 ≤ℤ a → pos 0 ≤ℤ b → pos 0 ≤ℤ (a *ℤ b)
-          go = over 2 _ (λ ρ h₁ h₂. also (prod h₁ h₂) (simp (linear, ρ) (omega arith)))
 
       -- one product more
       pub one_grown : Short h → (m : ℕ) {v : Interval} → Small (m * 268435456000000000) v → Small ((m + 1) * 268435456000000000) (exact_sum v (term ts x k))
@@ -109,21 +98,41 @@ module _ {n : ℕ} (rs : List (List ℤ)) {ends : List ℕ} {h : Interval} (w : 
     pub both_known : {x : List ℤ} → (pos 0 ≤ℤ h.lo) × NoneBelow x → BothAbove ts x k
     both_known b = (above_known k before b, above_known (k + 1) l b)
 
-    module _ {x : List ℤ} (y : Sound x) where
-      pub two_fit : InRange h → Representable (exact_sum (term ts x k) (term ts x (k + 1)))
-      two_fit r = small_fits (omega arith) (sum_small (term_small k before y r) (term_small (k + 1) l y r))
+    pub pair : {x : List ℤ} {a : Bool} → InRange h → (a ≡ true → BothAbove ts x k) → Pair n ts x a k
+    pair r o = (factors k before r (λ e. (o e).0), factors (k + 1) l r (λ e. (o e).1))
 
-      -- two products more
-      pub two_grown : Short h → (m : ℕ) {v : Interval} → Small (m * 268435456000000000) v → Small ((m + 2) * 268435456000000000) (exact_sum v (two_terms ts x k))
-      unfolding two_terms
-      two_grown s m p = two_short m p (term_short k before y s) (term_short (k + 1) l y s)
+    -- two products more
+    pub two_grown : {x : List ℤ} → Sound x → Short h → (m : ℕ) {v : Interval} → Small (m * 268435456000000000) v → Small ((m + 2) * 268435456000000000) (exact_sum v (two_terms ts x k))
+    unfolding two_terms
+    two_grown y s m p = two_short m p (term_short k before y s) (term_short (k + 1) l y s)
 
-      pub two_above : InRange h → BothAbove ts x k → (pos 0 ≤ℤ (two_terms ts x k).lo) × (pos 0 ≤ℤ (two_terms ts x k).hi)
-      unfolding two_terms exact_sum
-      two_above r o =
-          let u = term_above k before y r o.0 in
-          let v = term_above (k + 1) l y r o.1 in
-          (go _ _ u.0 v.0, go _ _ u.1 v.1)
-        where
-          go : (a b : ℤ) → pos 0 ≤ℤ a → pos 0 ≤ℤ b → pos 0 ≤ℤ (a +ℤ b)
-          go = over 2 _ (λ ρ. simp (linear, ρ) (omega arith))
+-- ---- a product, whatever the other records are
+module _ {n : ℕ} {ts : List Transfer} {x : List ℤ} {a : Bool} {k : ℕ} (f : Factors n ts x a k) (s : Sound x) where
+  pub term_small : Small 4000000000000000000 (term ts x k)
+  unfolding term
+  term_small = exact_product_small _ _ f.proper (s.each _)
+
+  pub term_above : a ≡ true → (pos 0 ≤ℤ (term ts x k).lo) × (pos 0 ≤ℤ (term ts x k).hi)
+  unfolding term exact_product
+  term_above e =
+      let o = f.over e in
+      let l : pos 0 ≤ℤ (term ts x k).lo =
+      rw (above_least_above (is_sound _ f.proper) (is_sound _ (s.each (nat_abs (nth ts k).giver - 1))) o.0 o.1) (go _ _ o.0 o.1) in
+      (l, trans l term_small.order)
+    where
+      go : (a b : ℤ) → pos 0 ≤ℤ a → pos 0 ≤ℤ b → pos 0 ≤ℤ (a *ℤ b)
+      go = over 2 _ (λ ρ h₁ h₂. also (prod h₁ h₂) (simp (linear, ρ) (omega arith)))
+
+-- ---- two of them together
+pub two_fit : {u v : Interval} → Small 4000000000000000000 u → Small 4000000000000000000 v → Representable (exact_sum u v)
+two_fit p q = small_fits (omega arith) (sum_small p q)
+
+pub two_above : {n : ℕ} {ts : List Transfer} {x : List ℤ} {k : ℕ} → Pair n ts x true k → Sound x → (pos 0 ≤ℤ (two_terms ts x k).lo) × (pos 0 ≤ℤ (two_terms ts x k).hi)
+unfolding two_terms exact_sum
+two_above p s =
+    let u = term_above p.0 s refl in
+    let v = term_above p.1 s refl in
+    (go _ _ u.0 v.0, go _ _ u.1 v.1)
+  where
+    go : (a b : ℤ) → pos 0 ≤ℤ a → pos 0 ≤ℤ b → pos 0 ≤ℤ (a +ℤ b)
+    go = over 2 _ (λ ρ. simp (linear, ρ) (omega arith))

@@ -10,7 +10,7 @@ use Rattle.sweep.specs.Code.{Ready}
 use Rattle.transfers.specs.declared.Transfer.{Transfer}
 use Rattle.transfers.specs.declared.internal.found.Row.{Row}
 use Rattle.transfers.specs.declared.internal.found.Ends.{Ends}
-use Rattle.transfers.specs.Listing.{Listing, nth, share, both_components, square}
+use Rattle.transfers.specs.Listing.{Listing, nth, share, is_component, both_components, square}
 use Rattle.transfers.specs.Call.{sweep_tests}
 use Rattle.transfers.specs.Code.{all_good, judgement}
 
@@ -105,6 +105,15 @@ pub record Above (ts : List Transfer) (x : List ℤ) (k : ℕ) : Type 0 where
 
 abbrev pub BothAbove : (ts : List Transfer) (x : List ℤ) (k : ℕ) → Type 0
 BothAbove ts x k = Above ts x k × Above ts x (k + 1)
+
+-- the record k can be multiplied with it; if above is true, neither is below 0
+pub record Factors (n : ℕ) (ts : List Transfer) (x : List ℤ) (above : Bool) (k : ℕ) : Type 0 where
+  pub inside : is_component n (nth ts k).giver ≡ true
+  pub proper : interval.acceptable (share (nth ts k)) ≡ true
+  pub over : above ≡ true → (pos 0 ≤ℤ (share (nth ts k)).lo) × (pos 0 ≤ℤ (component ts x k).lo)
+
+abbrev pub Pair : (n : ℕ) (ts : List Transfer) (x : List ℤ) (above : Bool) (k : ℕ) → Type 0
+Pair n ts x above k = Factors n ts x above k × Factors n ts x above (k + 1)
 
 -- that product, unrounded; and with the next one
 unfoldable pub term : List Transfer → List ℤ → (k : ℕ) → Interval

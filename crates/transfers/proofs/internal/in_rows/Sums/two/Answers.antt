@@ -1,5 +1,7 @@
-use Rattle.transfers.proofs.Terms.{two_fit}
+use Rattle.transfers.proofs.Terms.{pair}
 use Rattle.transfers.proofs.internal.in_rows.Sums.two.Goals as goal
 
-pub sum-requires : goal.sum-requires
-sum-requires c = rw (c.term.ensures, c.term-2.ensures) (two_fit _ c.args.self.now.rows.rows _ c.requires.k_in_bounds c.args.self.now.sound c.args.self.now.rows.range)
+pub two-requires-clause-k_in_bounds : goal.two-requires-clause-k_in_bounds
+two-requires-clause-k_in_bounds c =
+    let s = c.args.self.now in
+    (c.requires.k_in_bounds, pair _ s.rows.rows _ c.requires.k_in_bounds s.rows.range c.requires.signs)
