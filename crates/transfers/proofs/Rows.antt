@@ -245,7 +245,7 @@ module _ (n : ℕ) (ts : List Transfer) (ends : List ℕ) {shares : Interval} (r
     sums (suc d) c e k acc s = sums_go d c k acc (sums d (c + 1) (omega arith)) (column c k (omega arith) s)
 
     -- the sum over the row of the square
-    row_listed : exactly (square n ts) (i * n) x 0 n 0 zeroInterval ≡ row_sum ts ends x i
+    pub row_listed : exactly (square n ts) (i * n) x 0 n 0 zeroInterval ≡ row_sum ts ends x i
     unfolding row_sum
     row_listed =
         sums n 0 (zero-add n) first zeroInterval
