@@ -8,8 +8,8 @@ use lib.IntN.{ℤ, pos}
 use lib.ListN.{length, get_or, set, take, drop}
 use lib.Seq.{take-suc, drop-cons, append_snoc, set_at, length-take-le, take_at}
 use Rattle.transfers.specs.declared.Transfer.{Transfer}
-use Rattle.transfers.specs.Listing.{nth, transfer_of, transfers_of}
-use Rattle.transfers.specs.Code.{numbers_of, records_of}
+use Rattle.transfers.specs.Listing.{nth, transfer_of, transfers_of, numbers_of}
+use Rattle.transfers.specs.Code.{records_of}
 
 -- what `nth` finds past the end
 abbrev pub none : Transfer

@@ -6,12 +6,9 @@ use Rattle.sweep.specs.declared.internal.pass.Way.{Way}
 use Rattle.sweep.specs.declared.internal.pass.Way.TheVariants.{There, ThereAndBack}
 use Rattle.sweep.specs.Calls.{Call, sweep_call, symmetric_call}
 use Rattle.transfers.specs.declared.Transfer.{Transfer}
-use Rattle.transfers.specs.Listing.{nth, share, both_components, entries, shares, place_of, filled}
+use Rattle.transfers.specs.Listing.{nth, share, both_components, entries, shares, place_of, filled, numbers_of}
 
--- ---- a record as four numbers
-abbrev pub numbers_of : Transfer → List ℤ
-numbers_of t = t.receiver ∷ t.giver ∷ t.lo ∷ t.hi ∷ []
-
+-- ---- records as four numbers each
 unfoldable pub records_of : List Transfer → List (List ℤ)
 records_of [] = []
 records_of (t ∷ ts) = numbers_of t ∷ records_of ts

@@ -90,6 +90,9 @@ squared s = system s.size (square s.size s.transfers) s.right
 unfoldable pub transfer_of : List ℤ → Transfer
 transfer_of r = record { receiver = get_or r 0 (pos 0); giver = get_or r 1 (pos 0); lo = get_or r 2 (pos 0); hi = get_or r 3 (pos 0) }
 
+abbrev pub numbers_of : Transfer → List ℤ
+numbers_of t = t.receiver ∷ t.giver ∷ t.lo ∷ t.hi ∷ []
+
 unfoldable pub transfers_of : List (List ℤ) → List Transfer
 transfers_of [] = []
 transfers_of (r ∷ rs) = transfer_of r ∷ transfers_of rs

@@ -5,9 +5,8 @@ pub mod internal;
 ghost use Rattle.std.specs.Prelude.{◌≡◌};
 ghost use Rattle.outcome.specs.Run.{returned, answered};
 ghost use Rattle.sweep.specs.Calls.{sweep_call, symmetric_call};
-ghost use Rattle.transfers.specs.Listing.{listing, transfer_of};
+ghost use Rattle.transfers.specs.Listing.{listing, transfer_of, numbers_of};
 ghost use Rattle.transfers.specs.Call.{over_list, call_list};
-ghost use Rattle.transfers.specs.Code.{numbers_of};
 
 use crate::internal::calls::eliminate_records;
 use crate::internal::gather::{few_enough, gather, swept};
