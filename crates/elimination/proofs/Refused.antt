@@ -1,4 +1,5 @@
--- With which refusals the parts of a calculation other than the search for a row are refused, for any P that holds of them: 6 with a row.
+-- With which refusals the parts of a calculation are refused, for any P that holds of them: 6 with a row, and where a pivot is looked for
+-- 5 with a pivot.
 use mathlib.Core.List.{List}
 use Prim.Native.Nat.{ℕ, zero, suc}
 use lib.IntN.{ℤ}
@@ -9,9 +10,11 @@ use Rattle.outcome.proofs.Run.{Refuses, refuses_done, refuses_with, refuses_cond
 use Rattle.interval.specs.declared.Interval.{Interval}
 use Rattle.rows.specs.Sum.{RowSum}
 use Rattle.forward.specs.Run.{in_range_then}
-use Rattle.forward.specs.Forward.{columns, right_side, rows}
+use Rattle.forward.specs.Pivot.{lowest_from, lowest_row}
+use Rattle.forward.specs.Forward.{Table, taking, columns, right_side, rows, pivots, forward}
 use Rattle.forward.specs.Formed.{formed_row, formed_rows}
 use Rattle.elimination.specs.Back.{back}
+use Rattle.elimination.specs.Call.{solved}
 
 ruleset parts = (refuses_done, refuses_with, refuses_cond, refuses_then)
 
@@ -51,3 +54,22 @@ module _ (P : Refusal → Type 0) (six : (row : ℕ) → P (refusal.OutOfRange r
   unfolding formed_rows
   refuses_formed_rows n zero i t = search parts
   refuses_formed_rows n (suc d) i t = search (parts, refuses_formed_row, refuses_formed_rows n d)
+
+  module _ (five : (pivot : ℕ) → P (refusal.ContainsZero pivot)) where
+    refuses_lowest_from : (n k d i : ℕ) (t : List ℤ) → Stops (lowest_from n k d i t)
+    unfolding lowest_from
+    refuses_lowest_from n k zero i t = search (parts, five)
+    refuses_lowest_from n k (suc d) i t = search (parts, refuses_lowest_from n k d)
+
+    refuses_taking : (n k : ℕ) (s : Table) → Stops (taking lowest_row n k s)
+    unfolding taking lowest_row
+    refuses_taking n k s = search (parts, refuses_lowest_from)
+
+    refuses_pivots : (n d k : ℕ) (s : Table) → Stops (pivots lowest_row n d k s)
+    unfolding pivots
+    refuses_pivots n zero k s = search parts
+    refuses_pivots n (suc d) k s = search (parts, refuses_taking, refuses_rows, refuses_pivots n d)
+
+    pub refuses_solved : (sum : RowSum) (n : ℕ) (t : List ℤ) → Stops (solved lowest_row sum n t)
+    unfolding solved forward
+    refuses_solved sum n t = search (parts, refuses_pivots, refuses_back)
