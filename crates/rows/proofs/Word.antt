@@ -86,6 +86,14 @@ modest_fits k {v} h s =
     go : (k z : ℤ) → k ≤ℤ pos 32 → pos 0 ≤ℤ z → z ≤ℤ (k *ℤ pos 33554432000000000) → SFits w64 z
     go = over 2 _ (λ ρ. simp (fits64, linear, ρ) (omega arith))
 
+pub modest_more : {j k : ℕ} {v : Interval} → j ≤ k → SumModest j v → SumModest k v
+modest_more {j} {k} {v} h s =
+    let l : pos j ≤ℤ pos k = record { le = le→leb j k h } in
+    record { lo_above = s.lo_above; lo_few = go (pos j) (pos k) v.lo l s.lo_few; hi_above = s.hi_above; hi_few = go (pos j) (pos k) v.hi l s.hi_few }
+  where
+    go : (j k z : ℤ) → j ≤ℤ k → z ≤ℤ (j *ℤ pos 33554432000000000) → z ≤ℤ (k *ℤ pos 33554432000000000)
+    go = over 3 _ (λ ρ. simp (linear, ρ) (omega arith))
+
 -- ---- components that are not below 0
 pub above_read : (x : List ℤ) → Sound x → (j : ℕ) → {v : Interval} → v ≡ at x j → le_z (pos 0) (to_z w64 (of_z w64 v.lo)) ≡ true → pos 0 ≤ℤ (at x j).lo
 above_read x s j e h = above_taken (is_sound _ (s.each j)).lo_in (rw e at h)
