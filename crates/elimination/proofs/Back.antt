@@ -17,7 +17,7 @@ use Rattle.inputs.proofs.Place.{at_put_other, cell_before}
 use Rattle.rows.specs.Sum.{once}
 use Rattle.rows.proofs.Size.{Small, acceptable_small, difference_small, small_fits}
 use Rattle.rows.proofs.Sum.{once_small}
-use Rattle.std.specs.Prelude.{Result, Ok, Err}
+use Rattle.std.specs.Prelude.{Result, Ok, Err, IfErr}
 use Rattle.outcome.specs.declared.Refusal.{Refusal}
 use Rattle.outcome.specs.Run.{Run, refused, done, and_then, run_of}
 use Rattle.forward.specs.Run.{in_range_then, rhs}
@@ -75,10 +75,13 @@ module _ (n i : ℕ) (t : List ℤ) where
       let v = numerator once n (i - 1) t in
       turned (ap (λ k. back once n k t) e ∙ both (in_range v) (in_range (quotient v (at t (cell n (i - 1) (i - 1))))) _ _ (back once n (i - 1)) ∙ ap (λ r. and_then r (back once n (i - 1))) (sym p.is))
 
--- x(i) stands after all the pivots
-pub pivots_solved : (n i : ℕ) (t : List ℤ) {t' : List ℤ} {r : Result (Unit {0}) Refusal} → Pivots n t → Ran (unknown n i t) r t' → r ≡ Ok tt → Pivots n t'
+-- x(i) stands after all the pivots, and on a refusal nothing changed
+pub pivots_solved : (n i : ℕ) (t : List ℤ) {t' : List ℤ} {r : Result (Unit {0}) Refusal} → Pivots n t → Ran (unknown n i t) r t' → IfErr r (λ _. t' ≡ t) → Pivots n t'
 unfolding unknown
-pivots_solved n i t {t'} p s e =
-    let d : unknown n i t ≡ done t' = sym s.is ∙ ap (λ r. run_of r t') e in
-    let w = done_same (ranged _ _ _ t' (ranged _ _ _ t' d).rest).rest in
-    record { each = λ k h. ap contains_zero (ap (λ l. at l (cell n k k)) (sym w) ∙ at_put_other t (rhs n i) (cell n k k) _ (omega (arith, cell_before n k k h h))) ∙ p.each k h }
+pivots_solved n i t {t'} {r} p s k = go r s.is k
+  where
+    go : (r : Result (Unit {0}) Refusal) → run_of r t' ≡ unknown n i t → IfErr r (λ _. t' ≡ t) → Pivots n t'
+    go (Ok _) e k =
+        let w = done_same (ranged _ _ _ t' (ranged _ _ _ t' (sym e)).rest).rest in
+        record { each = λ k h. ap contains_zero (ap (λ l. at l (cell n k k)) (sym w) ∙ at_put_other t (rhs n i) (cell n k k) _ (omega (arith, cell_before n k k h h))) ∙ p.each k h }
+    go (Err o) e k = rw k p

@@ -7,7 +7,7 @@ use native.Mathlib.Omega.{arith}
 use lib.IntN.{ℤ}
 use lib.ListN.{length}
 use lib.Signed.{◌≤ℤ◌}
-use Rattle.std.specs.Prelude.{Result, Ok, Err, IsErrAnd}
+use Rattle.std.specs.Prelude.{Result, Ok, Err, IfErr, IsErrAnd}
 use Rattle.interval.specs.declared.Interval.{Interval}
 use Rattle.interval.specs.Interval.{in_range}
 use Rattle.interval.proofs.Range.{accept}
@@ -85,6 +85,15 @@ placed_ran {t' = t'} {r = r} q = record { is = go r ∙ sym (placed_turn q done)
     go : (r : Result (Unit {0}) Refusal) → run_of r t' ≡ and_then (run_of r t') done
     go (Ok _) = refl
     go (Err o) = refl
+
+-- and on a refusal leaves the working copy as it was
+pub placed_kept : {A : Type 0} {a : A} {row : ℕ} {v : Interval} {p : ℕ} {t t' : List ℤ} {r : Result A Refusal} → Placed a row v p t r t' → IfErr r (λ _. t' ≡ t)
+placed_kept {a = a} {row} {v} {p} {t} {t'} {r} q = go r (in_range v) q.answer q.list
+  where
+    go : (r : Result _ Refusal) (b : Bool) → r ≡ cond b (Ok a) (Err (refusal.OutOfRange row)) → t' ≡ cond b (put t p v) t → IfErr r (λ _. t' ≡ t)
+    go (Ok x) b e l = tt
+    go (Err o) true e l = absurd (not_err (sym e))
+    go (Err o) false e l = l
 
 -- a part by what the code answered
 pub ran_is : {run : Run (List ℤ)} {r o : Result (Unit {0}) Refusal} {t : List ℤ} → Ran run r t → r ≡ o → run ≡ run_of o t

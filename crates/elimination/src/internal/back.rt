@@ -1,4 +1,4 @@
-ghost use Rattle.std.specs.Prelude.{◌≡◌, false, ◌<◌};
+ghost use Rattle.std.specs.Prelude.{◌≡◌, false, ◌<◌, IfErr};
 ghost use Rattle.interval.specs.Interval.{contains_zero};
 ghost use Rattle.inputs.specs.Place.{at, cell};
 ghost use Rattle.rows.specs.Sum.{once};
@@ -13,10 +13,11 @@ use interval::internal::{difference, in_range};
 use outcome::Refusal;
 use rows::internal::row_sum;
 
-// x(i), in the place of f(i), if its numerator and it are in the range.
+// x(i), in the place of f(i), if its numerator and it are in the range; else the working copy stays as it was.
 fn unknown(n: usize, i: usize, t: &mut [i64]) -> Result<(), Refusal>
     requires { Working n t.old × (i < n) × (contains_zero (at t.old (cell n i i)) ≡ false) }
-    ensures { Ran (unknown n i t.old) result t.new }
+    ensures ran { Ran (unknown n i t.old) result t.new }
+    ensures kept { IfErr result (λ _. t.new ≡ t.old) }
 {
     let row = i + 1;
     let p = n * n + i;

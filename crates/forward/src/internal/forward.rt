@@ -1,4 +1,4 @@
-ghost use Rattle.std.specs.Prelude.{◌≡◌, true, false, ◌+◌, ◌<◌, length};
+ghost use Rattle.std.specs.Prelude.{◌≡◌, true, false, ◌+◌, ◌<◌, length, IfErr};
 ghost use Rattle.interval.specs.Interval.{acceptable, contains_zero, quotient};
 ghost use Rattle.inputs.specs.Place.{at, cell};
 ghost use Rattle.forward.specs.Pivot.{lowest_row};
@@ -35,12 +35,13 @@ fn entry(n: usize, k: usize, i: usize, j: usize, m: Interval, t: &mut [i64]) -> 
     reduce(t, i * n + j, m, k * n + j, i + 1)
 }
 
-#[tactic(auto, using(crate::proofs::Forward::right_side_ran))]
+#[tactic(auto, using(crate::proofs::Forward::right_side_ran, crate::proofs::Step::placed_kept))]
 // f(i) − m·f(k)
 fn right_side(n: usize, k: usize, i: usize, m: Interval, t: &mut [i64]) -> Result<(), Refusal>
     requires working { Working n t.old × (k < n) × (i < n) }
     requires m_value { acceptable m ≡ true }
-    ensures { Ran (right_side n k i m t.old) result t.new }
+    ensures ran { Ran (right_side n k i m t.old) result t.new }
+    ensures kept { IfErr result (λ _. t.new ≡ t.old) }
 {
     reduce(t, n * n + i, m, n * n + k, i + 1)
 }

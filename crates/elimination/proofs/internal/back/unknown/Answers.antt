@@ -17,9 +17,9 @@ difference-v-requires c =
 value : (c : After-difference-v) → c.difference-v.result ≡ numerator once c.args.n c.args.i c.args.t.now
 value c = c.difference-v.ensures ∙ numerator_is _ _ _ _ _ c.read-f.ensures c.row_sum-s.ensures
 
-pub returns-then-not-in_range : goal.returns-then-not-in_range
-returns-then-not-in_range c =
-    unknown_not _ _ _ c.requires.0.sound (ap in_range (sym (value (goal.at.returns-then-not-in_range c).After-difference-v)) ∙ sym c.in_range.ensures ∙ c.if-not-in_range.true)
+pub returns-then-not-in_range-clause-ran : goal.returns-then-not-in_range-clause-ran
+returns-then-not-in_range-clause-ran c =
+    unknown_not _ _ _ c.requires.0.sound (ap in_range (sym (value (goal.at.returns-then-not-in_range-clause-ran c).After-difference-v)) ∙ sym c.in_range.ensures ∙ c.if-not-in_range.true)
 
 -- and what its test says
 tested : (c : Else-not-in_range) → c.difference-v.result ≡ numerator once c.args.n c.args.i c.args.t.now → in_range (numerator once c.args.n c.args.i c.args.t.now) ≡ true
@@ -40,8 +40,8 @@ place-requires c =
       rw (c.quotient-w.ensures, v, c.read-a.ensures) (quotient_order _ _ (numerator_accepted _ _ _ c.requires.0 (tested a.Else-not-in_range v)) (c.requires.0.sound.each _) c.requires.2),
     )
 
-pub returns : goal.returns
-returns c =
-    let a = goal.at.returns c in
+pub returns-clause-ran : goal.returns-clause-ran
+returns-clause-ran c =
+    let a = goal.at.returns-clause-ran c in
     let v = value a.After-difference-v in
     unknown_placed _ _ _ _ (tested a.Else-not-in_range v) (c.quotient-w.ensures ∙ ap₂ quotient v c.read-a.ensures) c.place.ensures

@@ -57,12 +57,12 @@ right_side-requires-clause-m_value c =
 
 pub returns-in-Err-right_side : goal.returns-in-Err-right_side
 returns-in-Err-right_side c =
-    record { is = sym (stop (goal.at.returns-in-Err-right_side c).In-Ok (c.loop-i.invariant.1 ∙ on_err (Forward.rows_turn _ _ _ _ _ c.loop-i-test.true c.factor.ensures c.in-Ok-factor.is (c.loop-j.invariant.1 ∙ Forward.columns_end _ _ _ _ _ _ c.loop-j-test.false) c.right_side.ensures) c.in-Err-right_side.is)); sound = c.right_side.ensures.sound }
+    record { is = sym (stop (goal.at.returns-in-Err-right_side c).In-Ok (c.loop-i.invariant.1 ∙ on_err (Forward.rows_turn _ _ _ _ _ c.loop-i-test.true c.factor.ensures c.in-Ok-factor.is (c.loop-j.invariant.1 ∙ Forward.columns_end _ _ _ _ _ _ c.loop-j-test.false) c.right_side.ensures.ran) c.in-Err-right_side.is)); sound = c.right_side.ensures.ran.sound }
 
 pub loop-i-preserved : goal.loop-i-preserved
 loop-i-preserved c = (
-  working_after c.loop-j.invariant.0 c.right_side.auto.t c.right_side.ensures.sound,
-  c.loop-i.invariant.1 ∙ on_ok (Forward.rows_turn _ _ _ _ _ c.loop-i-test.true c.factor.ensures c.in-Ok-factor.is (c.loop-j.invariant.1 ∙ Forward.columns_end _ _ _ _ _ _ c.loop-j-test.false) c.right_side.ensures) c.in_default-right_side.is,
+  working_after c.loop-j.invariant.0 c.right_side.auto.t c.right_side.ensures.ran.sound,
+  c.loop-i.invariant.1 ∙ on_ok (Forward.rows_turn _ _ _ _ _ c.loop-i-test.true c.factor.ensures c.in-Ok-factor.is (c.loop-j.invariant.1 ∙ Forward.columns_end _ _ _ _ _ _ c.loop-j-test.false) c.right_side.ensures.ran) c.in_default-right_side.is,
   c.loop-j.invariant.2,
 )
 
