@@ -1,4 +1,4 @@
-// Where the parts of a state stand, read and written. C lends it as a slice of numbers; a call takes it as an array, whose type holds its length.
+// Where the parts of a state stand, read and written. C lends it as a slice of numbers; all but size take it as an array, whose type holds its length.
 ghost use Rattle.std.specs.Prelude.{◌≡◌, ◌≤◌, ◌<◌, MatchOption, length};
 ghost use Rattle.half_rows.specs.State.{size_of, turn_of, due, with_box, with_sums};
 ghost use Rattle.half_rows.specs.Code.{is_back};
@@ -20,10 +20,13 @@ pub const MATRIX: usize = 386;
 
 #[tactic(auto, unfolding(crate::specs::State::size_of, crate::specs::State::up_to))]
 // The size, if a system is loaded.
-pub fn size(state: &[i64; LENGTH]) -> Option<usize>
+pub fn size(state: &[i64]) -> Option<usize>
     ensures { MatchOption result (size_of state.now ≡ 0)
         (λ n. (size_of state.now ≡ n) × (0 < n) × (n ≤ 32)) }
 {
+    if state.len() != LENGTH {
+        return None;
+    }
     match state[0] {
         n @ 1..=32 => Some(n as usize),
         _ => None,
