@@ -5,6 +5,7 @@ use mathlib.Core.List.{List}
 use Prim.Native.Nat.{ℕ, suc, ◌+◌, ◌-◌, ◌≤◌, ◌<◌}
 use native.Mathlib.Omega.{arith}
 use lib.IntN.{ℤ, pos, neg_ℤ, ◌-ℤ◌}
+use lib.ListN.{length}
 use lib.Signed.{◌≤ℤ◌}
 use mir.Syntax.{w64}
 use mir.Val.{SFits, to_z, of_z}
@@ -26,6 +27,7 @@ use Rattle.wide_sum.specs.Wide.{held_both}
 use Rattle.wide_sum.specs.Code.{AddedBoth}
 use Rattle.rows.proofs.Size.{Small, exact_product_small, small_fits}
 use Rattle.kept_sums.specs.Kept.{sum_at, put_sum, sum_ready}
+use Rattle.kept_sums.proofs.Kept.{length_put_sum}
 use Rattle.half_rows.specs.Rows.{exchanged, renew}
 use Rattle.half_rows.specs.Code.{change}
 
@@ -86,6 +88,15 @@ module _ (s : System) (v : ℕ) (old new : Interval) (i : ℕ) (K : List ℤ) wh
   abbrev share : Interval
   share = at s.matrix (cell s.size i v)
 
+  -- the sums, with row i's renewed
+  abbrev renewed : List ℤ
+  renewed = put_sum K i (exchanged share old new (sum_at K i))
+
+  -- they stay as many, renewed or not
+  pub row_length : (b : Bool) {M : List ℤ} → M ≡ cond b renewed K → length M ≡ length K
+  row_length true e = ap length e ∙ length_put_sum K i _
+  row_length false e = ap length e
+
   -- a is the share, as it is read
   module _ {a : Interval} (p : a ≡ share) where
     pub row_ill : acceptable a ≡ false → refused refusal.NotDue ≡ renew s v old new 1 i K
@@ -97,7 +108,7 @@ module _ (s : System) (v : ℕ) (old new : Interval) (i : ℕ) (K : List ℤ) wh
       unfolding renew
       row_unready f = rw (← p, e, f)
 
-      pub row_done : {M : List ℤ} → sum_ready K i ≡ true → M ≡ put_sum K i (exchanged share old new (sum_at K i)) → done M ≡ renew s v old new 1 i K
+      pub row_done : {M : List ℤ} → sum_ready K i ≡ true → M ≡ renewed → done M ≡ renew s v old new 1 i K
       unfolding renew
       row_done f g = rw (g, ← p, e, f)
 
