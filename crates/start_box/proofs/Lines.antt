@@ -48,8 +48,8 @@ module _ {n : ℕ} {m : List ℤ} (s : Square n m) (a b i : ℕ) where
   abbrev entry : ℕ → ℤ
   entry k = magnitude (at m (i * a + k * b))
 
-  each : (k : ℕ) → k < n → Term 2000000000 (entry k)
-  each k h = magnitude_term _ (s.sound.each _)
+  pub line_term : (k : ℕ) → Term 2000000000 (entry k)
+  line_term k = magnitude_term _ (s.sound.each _)
 
   few : 2000000000 * n ≤ 1000000000000000000
   few = omega (arith, s.few)
@@ -57,7 +57,7 @@ module _ {n : ℕ} {m : List ℤ} (s : Square n m) (a b i : ℕ) where
   -- with the next entry
   module _ (k : ℕ) (h : k < n) {sum : ℤ} {v : Interval} (e : sum ≡ total entry k 0) (g : v ≡ at m (i * a + k * b)) {z : ℤ} (f : z ≡ magnitude v) where
     pub line_safe : SFits w64 (sum +ℤ to_z w64 (of_z w64 z))
-    line_safe = add_safe entry 2000000000 n each few k h e (f ∙ ap magnitude g)
+    line_safe = add_safe entry 2000000000 n (λ l q. line_term l) few k h e (f ∙ ap magnitude g)
 
     pub line_next : to_z w64 (of_z w64 (sum +ℤ to_z w64 (of_z w64 z))) ≡ total entry (k + 1) 0
-    line_next = add_is entry 2000000000 n each few k h e (f ∙ ap magnitude g)
+    line_next = add_is entry 2000000000 n (λ l q. line_term l) few k h e (f ∙ ap magnitude g)

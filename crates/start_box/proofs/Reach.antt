@@ -41,7 +41,7 @@ product_at_most {a} {b} h k = record { above = low a b h.above k.above; at_most 
     high : (a b : ℤ) → pos 0 ≤ℤ a → a ≤ℤ pos 2000000000 → pos 0 ≤ℤ b → b ≤ℤ pos 2000000000 → (a *ℤ b) ≤ℤ pos 4000000000000000000
     high = over 2 _ (λ ρ h₁ h₂ k₁ k₂. also (prod h₂ k₁) (also k₂ (also h₁ (simp (linear, ρ) (omega arith)))))
 
-product_fits : {z : ℤ} → Term 4000000000000000000 z → SFits w64 z
+pub product_fits : {z : ℤ} → Term 4000000000000000000 z → SFits w64 z
 product_fits {z} h = go z h.above h.at_most
   where
     go : (z : ℤ) → pos 0 ≤ℤ z → z ≤ℤ pos 4000000000000000000 → SFits w64 z
@@ -60,17 +60,17 @@ module _ {n : ℕ} {m r : List ℤ} (w : Square n m) (v : Right n r) where
   s = system n m r
 
   module _ (i : ℕ) where
-    coefficient_term : (j : ℕ) → Term 2000000000 (coefficients s i j)
+    pub coefficient_term : (j : ℕ) → Term 2000000000 (coefficients s i j)
     coefficient_term j = magnitude_term _ (w.sound.each _)
 
-    product_term : (j : ℕ) → Term 4000000000000000000 (coefficients s i j *ℤ constants s j)
+    pub product_term : (j : ℕ) → Term 4000000000000000000 (coefficients s i j *ℤ constants s j)
     product_term j = product_at_most (coefficient_term j) (magnitude_term _ (v.sound.each j))
 
     abbrev product : ℕ → ℤ
     product j = ceil_div (coefficients s i j *ℤ constants s j) scale
 
-    rounded : (j : ℕ) → j < n → Term 4000000000000 (product j)
-    rounded j h = rounded_term (product_term j)
+    pub rounded_product : (j : ℕ) → Term 4000000000000 (product j)
+    rounded_product j = rounded_term (product_term j)
 
     pub row_above : pos 0 ≤ℤ row_sum (coefficients s) n i
     unfolding row_sum
@@ -106,16 +106,16 @@ module _ {n : ℕ} {m r : List ℤ} (w : Square n m) (v : Right n r) where
 
         module _ {z sum : ℤ} (g : z ≡ ceil_div (to_z w64 (of_z w64 (to_z w64 (of_z w64 a) *ℤ to_z w64 (of_z w64 b)))) scale) (k : sum ≡ total product j 0) where
           pub product_safe : SFits w64 (sum +ℤ to_z w64 (of_z w64 z))
-          product_safe = add_safe product 4000000000000 n rounded few_products j h k (g ∙ ap (λ z. ceil_div z scale) times_read)
+          product_safe = add_safe product 4000000000000 n (λ l q. rounded_product l) few_products j h k (g ∙ ap (λ z. ceil_div z scale) times_read)
 
           pub product_next : to_z w64 (of_z w64 (sum +ℤ to_z w64 (of_z w64 z))) ≡ total product (j + 1) 0
-          product_next = add_is product 4000000000000 n rounded few_products j h k (g ∙ ap (λ z. ceil_div z scale) times_read)
+          product_next = add_is product 4000000000000 n (λ l q. rounded_product l) few_products j h k (g ∙ ap (λ z. ceil_div z scale) times_read)
 
   -- a row has at most 32 products
-  dividend_term : (i : ℕ) → i < n → Term 128000000000000 (dividend s i)
+  pub dividend_term : (i : ℕ) → Term 128000000000000 (dividend s i)
   unfolding dividend
-  dividend_term i h =
-      let t = total_term_of _ 4000000000000 n (rounded i) n (omega arith) in
+  dividend_term i =
+      let t = total_term_of _ 4000000000000 n (λ j h. rounded_product i j) n (omega arith) in
       record { above = t.above; at_most = trans t.at_most (pos_le _ _ (omega (arith, w.few))) }
 
   few_dividends : 128000000000000 * n ≤ 1000000000000000000
@@ -124,10 +124,10 @@ module _ {n : ℕ} {m r : List ℤ} (w : Square n m) (v : Right n r) where
   -- the sum of the rows with the next one
   module _ (i : ℕ) (h : i < n) {sum z : ℤ} (e : sum ≡ total (dividend s) i 0) (f : z ≡ dividend s i) where
     pub dividend_safe : SFits w64 (sum +ℤ to_z w64 (of_z w64 z))
-    dividend_safe = add_safe (dividend s) 128000000000000 n dividend_term few_dividends i h e f
+    dividend_safe = add_safe (dividend s) 128000000000000 n (λ l q. dividend_term l) few_dividends i h e f
 
     pub dividend_next : to_z w64 (of_z w64 (sum +ℤ to_z w64 (of_z w64 z))) ≡ total (dividend s) (i + 1) 0
-    dividend_next = add_is (dividend s) 128000000000000 n dividend_term few_dividends i h e f
+    dividend_next = add_is (dividend s) 128000000000000 n (λ l q. dividend_term l) few_dividends i h e f
 
 -- ---- a quotient
 module _ (p sum : ℤ) where
@@ -182,6 +182,19 @@ module _ (s : System) where
 
   abbrev columns_below : Bool
   columns_below = all_below_one (column_sum (coefficients s) s.size) s.size 0
+
+  pub reach_rows : rows_below ≡ true → over_rows s s.size 0 (pos 0) ≡ reach s
+  unfolding reach
+  reach_rows e = rw e
+
+  module _ (e : rows_below ≡ false) where
+    pub reach_columns : columns_below ≡ true → over_columns s ≡ reach s
+    unfolding reach
+    reach_columns f = rw (e, f)
+
+    pub reach_none : columns_below ≡ false → refused refusal.Sums ≡ reach s
+    unfolding reach
+    reach_none f = rw (e, f)
 
 -- ---- a reach is in the range
 ranged_within : (z : ℤ) {q : ℤ} → ranged z ≡ done q → within q ≡ true
