@@ -62,11 +62,11 @@ module _ (line : List ℕ) (k : ℕ) where
 
 -- where the part that starts at `at` stops, by what the search answers
 module _ (line : List ℕ) (at : ℕ) where
-  stop_at : (e : ℕ) → FirstAt line at 59 e → (e ≡ at + length (part (fields (drop at line)) 0)) × (e ≤ length line)
+  pub stop_at : (e : ℕ) → FirstAt line at 59 e → (e ≡ at + length (part (fields (drop at line)) 0)) × (e ≤ length line)
   unfolding part
   stop_at e f = (rw (parts_at line at 59 e f.is, cut_length line at e f) (omega arith), omega arith)
 
-  stop_none : at ≤ length line → first_from line at 59 ≡ None → (length line ≡ at + length (part (fields (drop at line)) 0)) × (length line ≤ length line)
+  pub stop_none : at ≤ length line → first_from line at 59 ≡ None → (length line ≡ at + length (part (fields (drop at line)) 0)) × (length line ≤ length line)
   unfolding part
   stop_none h f = (rw (parts_none line at 59 f, length-drop at line) (omega arith), omega arith)
 

@@ -39,7 +39,7 @@ module _ (b : ℕ) where
   unfolding name_byte is_digit
   byte_is = either_way (is_in_range 48 57 b) (is_in_range 65 90 b) (is_in_range 97 122 b) (eqb b 45)
 
-  byte_none : (65 ≤ b → 90 < b) → (97 ≤ b → 122 < b) → (48 ≤ b → 57 < b) → (b ≡ 45 → ⊥) → false ≡ name_byte b
+  pub byte_none : (65 ≤ b → 90 < b) → (97 ≤ b → 122 < b) → (48 ≤ b → 57 < b) → (b ≡ 45 → ⊥) → false ≡ name_byte b
   unfolding name_byte is_digit
   byte_none f g h i = rw (outside 65 90 b f, outside 97 122 b g, outside 48 57 b h, ne_eqb b 45 i)
 
