@@ -16,7 +16,7 @@ returns-in_err-room-clause-out_after c =
     ap (λ r. counted r c.args.out.now) (carried _ _ c.from_residual.ensures.1) ∙ print_short _ _ (sym c.room.ensures ∙ c.in_err-room.was)
 
 pub hand_out-requires : goal.hand_out-requires
-hand_out-requires c = omega (arith, c.report.auto.out, room_long _ (roomy (goal.at.hand_out-requires c).In_ok-room))
+hand_out-requires c = omega (arith, c.report.auto.out, c.refused.ensures.short, room_long _ (roomy (goal.at.hand_out-requires c).In_ok-room))
 
 pub returns-in-Ok : goal.returns-in-Ok
 returns-in-Ok c =
@@ -27,5 +27,5 @@ returns-in-Ok c =
 pub returns-in-Err : goal.returns-in-Err
 returns-in-Err c =
     let o = c.in-Err.o in
-    let q = print_refused _ _ (roomy (goal.at.returns-in-Err c).In_ok-room) (Err o) 0 c.report.new.out (ap (λ r. answer_of r c.report.new.out) (sym c.in-Err.is) ∙ c.report.ensures) (not_reached o) c.refused.ensures c.hand_out.ensures.count c.hand_out.ensures.out_after in
+    let q = print_refused _ _ (roomy (goal.at.returns-in-Err c).In_ok-room) (Err o) 0 c.report.new.out (ap (λ r. answer_of r c.report.new.out) (sym c.in-Err.is) ∙ c.report.ensures) (not_reached o) c.refused.ensures.line c.hand_out.ensures.count c.hand_out.ensures.out_after in
     record { out_after = q.0; inside = q.1 }

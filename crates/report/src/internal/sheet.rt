@@ -85,7 +85,8 @@ pub fn calculated(names: &[u8], n: usize, x: &[i64], ending: Ending, count: usiz
 
 // The line of a refusal.
 pub fn refused(o: Refusal) -> Sheet
-    ensures { result.items ≡ refusal (number_and_place (Err o)).number (number_and_place (Err o)).place }
+    ensures line { result.items ≡ refusal (number_and_place (Err o)).number (number_and_place (Err o)).place }
+    ensures short { array_vec_len result ≤ 50 }
 {
     let mut sheet = Sheet::new();
     put(&mut sheet, b"refused ");
@@ -98,7 +99,7 @@ pub fn refused(o: Refusal) -> Sheet
 
 // Copies a sheet to the beginning of out, and answers how many bytes it has.
 pub fn hand_out(sheet: &Sheet, out: &mut [u8]) -> usize
-    requires { 2048 ≤ length out.old }
+    requires { length sheet.now.items ≤ length out.old }
     ensures count { result ≡ length sheet.now.items }
     ensures out_after { out.new ≡ over sheet.now.items out.old }
 {
