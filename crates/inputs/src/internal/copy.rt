@@ -24,5 +24,8 @@ pub fn copy_out(x: &mut [i64], t: &[i64], from: usize)
     requires { from + length x.old ≤ length t.now }
     ensures { x.new ≡ take (length x.old) (drop from t.now) }
 {
-    x.copy_from_slice(&t[from..from + x.len()]);
+    // One by one: where the compiler cannot see that x and t lie apart, a copy as a whole needs memmove, which callers of the archive for C need not have.
+    for i in 0..x.len() {
+        x[i] = t[from + i];
+    }
 }
