@@ -1,10 +1,12 @@
 -- The values that the calculation makes fit the machine and have their ends in sequence; in the range, they are intervals again.
-use mathlib.Core.Path.{◌≡◌}
-use mathlib.Core.Bool.{true, false}
+use mathlib.Core.Path.{◌≡◌, refl}
+use mathlib.Core.Bool.{Bool, true, false, ◌&&◌}
 use native.Mathlib.Omega.{arith}
-use lib.Signed.{◌≤ℤ◌}
+use lib.Signed.{◌≤ℤ◌, le_z}
+use Rattle.std.proofs.Math.Bool.{and-false}
+use Rattle.integer.proofs.Order.{le_taken, yes_le, trans}
 use Rattle.interval.specs.declared.Interval.{Interval}
-use Rattle.interval.specs.Interval.{acceptable, contains_zero, in_range, exact_difference, product, quotient}
+use Rattle.interval.specs.Interval.{lowest, highest, within, acceptable, contains_zero, in_range, exact_difference, product, quotient}
 use Rattle.interval.specs.Code.{Representable}
 use Rattle.interval.proofs.Range.{is_sound, accept}
 use Rattle.fraction.specs.Fraction.{millionths}
@@ -22,6 +24,19 @@ module _ (a m b : Interval) (h : acceptable a ≡ true) (k : acceptable m ≡ tr
 
   pub reduced_order : (exact_difference a (product m b)).lo ≤ℤ (exact_difference a (product m b)).hi
   reduced_order = reduced_small.order
+
+-- the range test of ends in sequence: the upper end where the lower one is not too low
+pub ranged_above : (v : Interval) → v.lo ≤ℤ v.hi → le_z lowest v.lo ≡ true → le_z v.hi highest ≡ in_range v
+unfolding in_range within
+ranged_above v o e = go (le_z v.hi highest) refl
+  where
+    go : (b : Bool) → le_z v.hi highest ≡ b → b ≡ ((le_z lowest v.lo && le_z v.lo highest) && (le_z lowest v.hi && b))
+    go true f = rw (e, yes_le v.lo highest (trans o (le_taken v.hi highest f)), yes_le lowest v.hi (trans (le_taken lowest v.lo e) o))
+    go false f = rw (and-false (le_z lowest v.hi), and-false (le_z lowest v.lo && le_z v.lo highest))
+
+pub ranged_below : (v : Interval) → le_z lowest v.lo ≡ false → false ≡ in_range v
+unfolding in_range within
+ranged_below v e = rw e
 
 -- a quotient
 pub quotient_order : (x y : Interval) → acceptable x ≡ true → acceptable y ≡ true → contains_zero y ≡ false → (quotient x y).lo ≤ℤ (quotient x y).hi
