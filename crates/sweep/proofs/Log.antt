@@ -111,8 +111,8 @@ module _ {n : ℕ} {p : List ℤ → Run (List ℤ)} {allowed : ℕ} {x₀ : Lis
     pub midway_refused : {o : Refusal} → r ≡ Err o → Logged (sweeps n p allowed x₀) x₀ (record { outcome = Err o; count = k }) y
     midway_refused e = logged_refused s.since y (sweeps_stopped n p allowed k x h (was_refused q e))
 
-    pub midway_settled : r ≡ Ok false → Logged (sweeps n p allowed x₀) x₀ (record { outcome = Ok Done; count = k + 1 }) y
-    midway_settled e = logged_settled (since_more s.since (sweeps_settled n p allowed k x h (was_whole q e) (sym (was_flagged q e)))) refl
+    pub midway_settled : {c : ℕ} → c ≡ k + 1 → r ≡ Ok false → Logged (sweeps n p allowed x₀) x₀ (record { outcome = Ok Done; count = c }) y
+    midway_settled f e = rw f (logged_settled (since_more s.since (sweeps_settled n p allowed k x h (was_whole q e) (sym (was_flagged q e)))) refl)
 
     pub midway_go : r ≡ Ok true → Midway n p allowed x₀ (k + 1) y
     midway_go e = record { since = since_more s.since (sweeps_go n p allowed k x h (was_whole q e) (sym (was_flagged q e))) }

@@ -104,8 +104,8 @@ pub record Halfway (s : System) (run : Run (List ℤ)) (is : List ℕ) (x₀ x :
   pub flag : changed ≡ differ x₀ x s.size 0
   pub inside : (j : ℕ) → Contains (at x₀ j) (at x j)
 
-pub halfway_start : (w : Way) (s : System) {x : List ℤ} → Ready s.size s.matrix s.right x → Halfway s (pass (Some w) s x) (up (s.size - 0) 0 ++ back w s.size) x x false
-halfway_start w s {x} r = record { ready = r; rest = rw sub-zero (pass_along w s x); flag = sym (differ_self x s.size 0); inside = λ j. contains_refl (at x j) }
+pub halfway_start : (w : Way) (s : System) {x : List ℤ} {k : ℕ} → k ≡ 0 → Ready s.size s.matrix s.right x → Halfway s (pass (Some w) s x) (up (s.size - k) k ++ back w s.size) x x false
+halfway_start w s {x} e r = record { ready = r; rest = rw (e, sub-zero) (pass_along w s x); flag = sym (differ_self x s.size 0); inside = λ j. contains_refl (at x j) }
 
 module _ {s : System} {run : Run (List ℤ)} {x₀ x : List ℤ} {c : Bool} where
   pub passed : {is : List ℕ} → is ≡ [] → Halfway s run is x₀ x c → Passed run s.size x₀ (Ok c) x

@@ -12,7 +12,7 @@ returns-in-Err g c = midway_refused c.loop-count.invariant.midway c.loop-count-t
 
 pub returns-in-Ok-false : goal.returns-in-Ok-false
 returns-in-Ok-false g c =
-    midway_settled c.loop-count.invariant.midway c.loop-count-test.true c.pass_once.ensures.passed (c.in-Ok-false.is ∙ ap Ok c.in-Ok-false.field-0-test)
+    midway_settled c.loop-count.invariant.midway c.loop-count-test.true c.pass_once.ensures.passed (omega arith) (c.in-Ok-false.is ∙ ap Ok c.in-Ok-false.field-0-test)
 
 pub loop-count-preserved : goal.loop-count-preserved
 loop-count-preserved g c =

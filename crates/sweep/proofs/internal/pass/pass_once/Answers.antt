@@ -14,7 +14,7 @@ pub returns-in_default-clause-passed : goal.returns-in_default-clause-passed
 returns-in_default-clause-passed g c = rw c.in_default.is (passed_nothing (g.B.Balance.system c.args.balance.now) (g.met.B.Balance.all_sound _ _ c.requires).box_sound)
 
 pub loop-i-init : goal.loop-i-init
-loop-i-init g c = rw c.in-Some.is (halfway_start c.in-Some.way (g.B.Balance.system c.args.balance.now) (g.met.B.Balance.all_sound _ _ c.requires))
+loop-i-init g c = rw c.in-Some.is (halfway_start c.in-Some.way (g.B.Balance.system c.args.balance.now) (omega arith) (g.met.B.Balance.all_sound _ _ c.requires))
 
 -- component i is the next, on the way there and on the way back; between them nothing but the way back is left
 next : (g : _) (c : In-loop-i g) →
