@@ -58,8 +58,7 @@ fn sum_above(
     Some(acc.raised(sum))
 }
 
-// acc and the d products of the shares of g, of any sign. A call of its own, which keeps the way out of sum_above's loop short: by a far jump half passes of shares that are not negative take a quarter more time.
-#[inline(never)]
+// acc and the d products of the shares of g, of any sign.
 fn any_sum(acc: WideInterval, g: &[i64], x: &[i64], q: usize, d: usize) -> Option<WideInterval>
     requires near_both { NearBoth 900 acc }
     requires g_len { (length g.now ≡ 2 * d) × Sound x.now × (2 * (q + d) ≤ length x.now) × (d ≤ 32) }
@@ -90,11 +89,8 @@ pub fn tested_sum(
     requires d_in_bounds { (2 * (p + d) ≤ length h.now) × Sound x.now × (2 * (q + d) ≤ length x.now) × (d ≤ 32) }
     ensures { SumTested acc h.now p x.now q d result }
 {
-    if !above {
-        return any_sum(acc, &h[2 * p..2 * p + 2 * d], x, q, d);
+    if above && let Some(s) = sum_above(acc, h, p, x, q, d) {
+        return Some(s);
     }
-    match sum_above(acc, h, p, x, q, d) {
-        Some(s) => Some(s),
-        None => any_sum(acc, &h[2 * p..2 * p + 2 * d], x, q, d),
-    }
+    any_sum(acc, &h[2 * p..2 * p + 2 * d], x, q, d)
 }
