@@ -36,6 +36,7 @@ mod steps;
 mod systems;
 mod texts;
 
+ghost use Rattle.std.specs.Prelude.{◌≡◌, ◌≤◌, length};
 ghost use Rattle.vectors.specs.Reader.{Passed};
 
 use crate::reader::{Head, Reader};
@@ -106,7 +107,10 @@ fn run_all(rt: &impl Print, cases: &[u8]) {
 }
 
 // What the file holds, as far as buf has room for it, and no more than was read before a read that fails.
-fn read_cases<'a, R: Read>(file: &mut R, buf: &'a mut [u8]) -> &'a [u8] {
+fn read_cases<'a, R: Read>(file: &mut R, buf: &'a mut [u8]) -> &'a [u8]
+    ensures start { result.ref_ptr ≡ buf.entry.ref_ptr }
+    ensures size { length result.now ≤ length buf.old }
+{
     // by a place: it moves by as many bytes as each read gives
     let mut done = 0;
     while let Ok(more) = file.read(&mut buf[done..])
