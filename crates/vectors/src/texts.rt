@@ -1,3 +1,4 @@
+ghost use Rattle.std.specs.Prelude.{◌≡◌, length, take};
 ghost use Rattle.vectors.specs.Reader.{Passed};
 
 use crate::calls::{Subject, run_calls};
@@ -27,7 +28,9 @@ const LENT: i64 = 77_777_777_777;
 const BLANK: u8 = b'.';
 
 // What was lent, up to the last that is not as it was lent.
-fn used<T: PartialEq + Drop>(lent: &[T], blank: T) -> &[T] {
+fn used<T: PartialEq + Drop>(lent: &[T], blank: T) -> &[T]
+    ensures { result.now ≡ take (length result.now) lent.now }
+{
     let end = lent
         .iter()
         .rposition(|x| *x != blank)
