@@ -9,7 +9,7 @@ use lib.Dec.{eqb}
 use lib.IntN.{ℤ, pos}
 use lib.ListN.{length, take, drop, replicate, length-append}
 use lib.Seq.{length-take-le}
-use Rattle.std.specs.Prelude.{Result, Ok, Err}
+use Rattle.std.specs.Prelude.{Result, Ok, Err, IfOk}
 use Rattle.outcome.specs.declared.Ending.{Ending}
 use Rattle.outcome.specs.declared.Ending.TheVariants.{Done, Spent}
 use Rattle.outcome.specs.declared.Refusal.{Refusal}
@@ -96,6 +96,10 @@ module _ (names : List ℕ) (n : ℕ) (out : List ℕ) (k : ℕ) (x : List ℤ) 
 pub room_long : (out : List ℕ) → room out ≡ Ok tt → length out ≡ 2048
 unfolding lengths
 room_long out e = eqb-true _ _ (need_pass _ (refusal.Length 3) (both_pass _ _ e).0)
+
+pub room_fits : (out : List ℕ) (r : Result (Unit {0}) Refusal) → r ≡ room out → IfOk r (λ _. length out ≡ 2048)
+room_fits out (Ok u) e = room_long out (sym e)
+room_fits out (Err o) e = tt
 
 -- ---- `report`, by what the text was read as
 module _ (text out : List ℕ) where

@@ -3,7 +3,7 @@
 pub mod claims;
 pub mod internal;
 
-ghost use Rattle.std.specs.Prelude.{◌≡◌, IfOk};
+ghost use Rattle.std.specs.Prelude.{◌≡◌, IfOk, length};
 ghost use Rattle.outcome.specs.Run.{counted};
 ghost use Rattle.report.specs.Call.{answer_of, room, report, print, IsPrefixLen};
 
@@ -23,7 +23,8 @@ pub struct Written {
 
 // Test 2, of the slice lent for a sheet.
 fn room(out: &[u8]) -> Result<(), Refusal>
-    ensures { result ≡ room out.now }
+    ensures answer { result ≡ room out.now }
+    ensures long { IfOk result (λ _. length out.now ≡ 2048) }
 {
     lengths(&[Slice {
         place: 3,
@@ -50,6 +51,6 @@ pub fn print(text: &[u8], out: &mut [u8]) -> Result<usize, Refusal>
     room(out)?;
     match report(text, out) {
         Ok(w) => Ok(w.count),
-        Err(o) => Ok(hand_out(&refused(o), out)),
+        Err(o) => Ok(hand_out(&refused(Err(o)), out)),
     }
 }

@@ -1,22 +1,18 @@
 use mathlib.Core.Path.{◌≡◌, sym, ap, ◌∙◌}
-use native.Mathlib.Omega.{arith}
 use Rattle.std.specs.Prelude.{Ok, Err}
 use Rattle.outcome.specs.Run.{counted}
 use Rattle.outcome.proofs.Run.{carried}
 use Rattle.report.specs.Call.{answer_of, room}
-use Rattle.report.proofs.Call.{room_long, ending_reached, not_reached, print_short, print_reached, print_refused}
+use Rattle.report.proofs.Call.{ending_reached, not_reached, print_short, print_reached, print_refused}
 use Rattle.report.proofs.print.Goals as goal
 use Rattle.report.proofs.print.Goals.{In_ok-room}
 
 roomy : (c : In_ok-room) → room c.args.out.now ≡ Ok tt
-roomy c = sym c.room.ensures ∙ c.in_ok-room.was
+roomy c = sym c.room.ensures.answer ∙ c.in_ok-room.was
 
 pub returns-in_err-room-clause-out_after : goal.returns-in_err-room-clause-out_after
 returns-in_err-room-clause-out_after c =
-    ap (λ r. counted r c.args.out.now) (carried _ _ c.from_residual.ensures.1) ∙ print_short _ _ (sym c.room.ensures ∙ c.in_err-room.was)
-
-pub hand_out-requires : goal.hand_out-requires
-hand_out-requires c = omega (arith, c.report.auto.out, c.refused.ensures.short, room_long _ (roomy (goal.at.hand_out-requires c).In_ok-room))
+    ap (λ r. counted r c.args.out.now) (carried _ _ c.from_residual.ensures.1) ∙ print_short _ _ (sym c.room.ensures.answer ∙ c.in_err-room.was)
 
 pub returns-in-Ok : goal.returns-in-Ok
 returns-in-Ok c =

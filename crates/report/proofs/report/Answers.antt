@@ -10,7 +10,7 @@ use Rattle.report.proofs.report.Goals as goal
 use Rattle.report.proofs.report.Goals.{In_ok-room}
 
 roomy : (c : In_ok-room) → room c.args.out.now ≡ Ok tt
-roomy c = sym c.room.ensures ∙ c.in_ok-room.was
+roomy c = sym c.room.ensures.answer ∙ c.in_ok-room.was
 
 pub returns-in_err-h : goal.returns-in_err-h
 returns-in_err-h c =
@@ -19,7 +19,7 @@ returns-in_err-h c =
 pub returns-in_err-room : goal.returns-in_err-room
 returns-in_err-room c =
     ap (λ r. answer_of r c.args.out.now) (carried _ _ c.from_residual-in_err-room.ensures.1)
-    ∙ report_short _ _ (sym c.in_ok-h.ensures.t_after) (sym c.room.ensures ∙ c.in_err-room.was)
+    ∙ report_short _ _ (sym c.in_ok-h.ensures.t_after) (sym c.room.ensures.answer ∙ c.in_err-room.was)
 
 pub put_balance-requires-clause-in_bounds : goal.put_balance-requires-clause-in_bounds
 put_balance-requires-clause-in_bounds c =

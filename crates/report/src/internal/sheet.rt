@@ -1,5 +1,5 @@
 // What is printed, piece by piece.
-ghost use Rattle.std.specs.Prelude.{◌≡◌, ◌++◌, ◌+◌, ◌*◌, ◌≤◌, Err, length};
+ghost use Rattle.std.specs.Prelude.{◌≡◌, ◌++◌, ◌+◌, ◌*◌, ◌≤◌, length};
 ghost use Rattle.arrayvec.specs.ArrayVec.{array_vec_len};
 ghost use Rattle.outcome.specs.Table.{number_and_place};
 ghost use Rattle.text.specs.Call.{over};
@@ -10,7 +10,7 @@ use arrayvec::ArrayVec;
 use inputs::internal::read;
 use interval::Interval;
 use itoa::{Buffer, Integer};
-use outcome::{Ending, Refusal, number, place};
+use outcome::{Ending, Outcome, number, place};
 
 // What is printed for one text has room here.
 pub type Sheet = ArrayVec<u8, 2048>;
@@ -83,16 +83,16 @@ pub fn calculated(names: &[u8], n: usize, x: &[i64], ending: Ending, count: usiz
     sheet
 }
 
-// The line of a refusal.
-pub fn refused(o: Refusal) -> Sheet
-    ensures line { result.items ≡ refusal (number_and_place (Err o)).number (number_and_place (Err o)).place }
+// The line of a refusal, or of any other outcome.
+pub fn refused(o: Outcome) -> Sheet
+    ensures line { result.items ≡ refusal (number_and_place o).number (number_and_place o).place }
     ensures short { array_vec_len result ≤ 50 }
 {
     let mut sheet = Sheet::new();
     put(&mut sheet, b"refused ");
-    put_number(&mut sheet, number(Err(o)));
+    put_number(&mut sheet, number(o));
     sheet.push(b' ');
-    put_number(&mut sheet, place(Err(o)));
+    put_number(&mut sheet, place(o));
     sheet.push(b'\n');
     sheet
 }
