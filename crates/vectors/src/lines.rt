@@ -1,8 +1,11 @@
 // The lines that are printed, one a case. A write that fails is passed over.
+ghost use Rattle.std.specs.Prelude.{◌≤◌};
+
 use crate::reader::Head;
+use arrayvec::ArrayVec;
+use itoa::{Buffer, Integer};
 use outcome::{Ending, Outcome, Refusal, number, place};
 use report::Written;
-use std::fmt::Display;
 use sweep::Swept;
 
 // How a call ended, and its count, if it has one.
@@ -62,8 +65,16 @@ pub(crate) fn end(rt: &impl Print) {
     say(rt, b"\n");
 }
 
-pub(crate) fn value(rt: &impl Print, x: impl Display + Drop) {
-    let _ = print!(rt; " {x}");
+// A number behind a blank, in one write. By print it takes three times as long, and most lines are numbers.
+pub(crate) fn value<I: Integer>(rt: &impl Print, n: I)
+    requires { I.MAX_STR_LEN ≤ 40 }
+{
+    let mut digits = Buffer::new();
+    let mut line: ArrayVec<u8, 41> = ArrayVec::new();
+    line.push(b' ');
+    line.try_extend_from_slice(digits.format(n).as_bytes())
+        .unwrap();
+    say(rt, line.as_slice());
 }
 
 pub(crate) fn values(rt: &impl Print, t: &[i64]) {
