@@ -65,7 +65,7 @@ pub(crate) fn end(rt: &impl Print) {
     say(rt, b"\n");
 }
 
-// A number behind a blank, in one write. By print it takes three times as long, and most lines are numbers.
+// A number behind a blank, in one write. By print it takes three times the instructions, and most lines are numbers.
 pub(crate) fn value<I: Integer>(rt: &impl Print, n: I)
     requires { I.MAX_STR_LEN ≤ 40 }
 {
