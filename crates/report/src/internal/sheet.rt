@@ -1,5 +1,5 @@
 // What is printed, piece by piece.
-ghost use Rattle.std.specs.Prelude.{◌≡◌, ◌++◌, ◌+◌, ◌*◌, ◌≤◌, length};
+ghost use Rattle.std.specs.Prelude.{◌≡◌, ◌++◌, ◌+◌, ◌*◌, ◌≤◌, length, min};
 ghost use Rattle.arrayvec.specs.ArrayVec.{array_vec_len};
 ghost use Rattle.outcome.specs.Table.{number_and_place};
 ghost use Rattle.text.specs.Call.{over};
@@ -97,9 +97,9 @@ pub fn refused(o: Outcome) -> Sheet
     sheet
 }
 
-// Copies a sheet to the beginning of out, and answers how many bytes it has.
+// Copies a sheet to the beginning of out, which has room for it or for any sheet, and answers how many bytes it has.
 pub fn hand_out(sheet: &Sheet, out: &mut [u8]) -> usize
-    requires { length sheet.now.items ≤ length out.old }
+    requires { min 2048 (length sheet.now.items) ≤ length out.old }
     ensures count { result ≡ length sheet.now.items }
     ensures out_after { out.new ≡ over sheet.now.items out.old }
 {
