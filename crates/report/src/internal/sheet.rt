@@ -107,3 +107,26 @@ pub fn hand_out(sheet: &Sheet, out: &mut [u8]) -> usize
     out[..s.len()].copy_from_slice(s);
     s.len()
 }
+
+#[cfg(test)]
+mod tests {
+    use super::*;
+    use outcome::Refusal;
+
+    // Who lends room for any sheet need not know how long this one is.
+    fn hand_out_any(sheet: &Sheet, out: &mut [u8; 2048]) -> usize {
+        hand_out(sheet, out)
+    }
+
+    // The same line into room for any sheet and into room for a line; the bytes behind it stay.
+    #[test]
+    fn a_line_is_handed_out(rt: HostRuntime) {
+        let line = refused(Err(Refusal::Text(1)));
+        let mut long = [b'.'; 2048];
+        assert_eq!(rt; hand_out_any(&line, &mut long), 12);
+        assert_eq!(rt; &long[..13], b"refused 8 1\n.".as_slice());
+        let mut short = [b'.'; 50];
+        assert_eq!(rt; hand_out(&line, &mut short), 12);
+        assert_eq!(rt; &short[..13], b"refused 8 1\n.".as_slice());
+    }
+}
